@@ -3,6 +3,7 @@ ghost use Rattle.std.specs.Prelude.{◌≡◌, ◌++◌, ◌∷◌, [], ◌==◌
 use crate::directory_entry::DirectoryEntry;
 use crate::oom::Oom;
 use std::alloc::Global;
+use std::cmp::Ordering;
 use std::marker::Model;
 
 /// A list of values, which contracts see as a list.
@@ -49,6 +50,34 @@ impl<T: Eq> Eq for Items<T> {
     ghost laws = { lists_equiv T.Eq.laws };
 }
 
+impl<T: PartialOrd> PartialOrd for Items<T> {
+    ghost use Rattle.std.specs.Cmp.Lexicographic.{slice_partial_cmp, lists_po};
+
+    ghost partial_cmp = { λ a b. slice_partial_cmp T.partial_cmp a b };
+
+    ghost laws = { lists_po T.PartialOrd.laws };
+
+    fn partial_cmp(&self, other: &Items<T>) -> Option<Ordering> {
+        self.items.partial_cmp(&other.items)
+    }
+}
+
+impl<T: Ord> Ord for Items<T> {
+    ghost use Rattle.std.specs.Cmp.Lexicographic.{slice_cmp, lists_total, lists_agrees, lists_ties};
+
+    ghost cmp = { λ a b. slice_cmp T.cmp a b };
+
+    ghost total = { lists_total T.total };
+
+    ghost matches_partial_cmp = { λ a b. lists_agrees T.matches_partial_cmp a b };
+
+    ghost matches_eq = { λ a b. lists_ties T.cmp T.matches_eq a b };
+
+    fn cmp(&self, other: &Items<T>) -> Ordering {
+        self.items.cmp(&other.items)
+    }
+}
+
 impl<T> Items<T> {
     /// No items. It takes no memory.
     pub fn new(alloc: Global) -> Items<T>
@@ -64,6 +93,14 @@ impl<T> Items<T> {
         ensures { result ≡ items.items }
     {
         Items { items }
+    }
+
+    /// The items as a `Vec`, moved and not copied.
+    pub fn into_vec(self) -> Vec<T>
+        ensures { result.items ≡ self }
+    {
+        let Items { items } = self;
+        items
     }
 
     /// The items as a slice.

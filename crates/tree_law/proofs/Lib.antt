@@ -1,0 +1,3 @@
+pub mod DirectoryNames
+pub mod PathParts
+pub mod Walks

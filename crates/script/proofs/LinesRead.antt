@@ -1,5 +1,5 @@
 -- Lines read one after the other.
-use Rattle.std.proofs.Common.{◌≡◌, ◌≢◌, ◌==◌, ◌&&◌, ◌+◌, ◌<◌, ◌≤◌, ℕ, Bool, false, List, [], ◌∷◌, ◌++◌, length, All, nat_lt, cond, refl, sym, ap, ◌∙◌, subst, arith, append_assoc, Option, Some, None, MatchOption}
+use Rattle.std.proofs.Common.{◌≡◌, ◌≢◌, ◌==◌, ◌&&◌, ◌+◌, ◌<◌, ◌≤◌, ◌^◌, ℕ, Bool, false, List, [], ◌∷◌, ◌++◌, length, All, nat_lt, cond, refl, sym, ap, ◌∙◌, subst, arith, append_assoc, Option, Some, None, MatchOption}
 use Rattle.std.proofs.lemmas.Bool.Decides.{nat_tests}
 use Rattle.std.proofs.lemmas.List.Elements.{All-cons, All-append}
 use Rattle.tree_law.specs.declared.call.Call.{Call}
@@ -25,6 +25,13 @@ pub record AreRead (all : List NumberedLine) (number through : ℕ) (left : List
   pub says : Says done said
   pub begun : 1 < number
   pub few : number ≤ 65537
+
+-- what was read, and the bytes: so many in all, so many read, so many left
+pub record IsWithin (Read : Type 0) (total through left : ℕ) : Type 0 where
+  pub read : Read
+  pub whole : through + left ≡ total
+  pub fits : total < 2 ^ 64
+  pub small : through ≤ 67108864
 
 abbrev line_at : ℕ → ℕ → List ℕ → NumberedLine
 line_at number through text = record { number = number; through = through; text = text }

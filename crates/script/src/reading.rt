@@ -58,6 +58,7 @@ fn said_by(alloc: Global, text: &[u8]) -> Result<Said, Oom>
 /// the first bad line is told, with the first reason that applies to it.
 pub fn read_script(alloc: Global, bytes: &[u8]) -> Result<Script, ReadScriptError>
     ensures ok { IfOk result (IsScript bytes.now) }
+    ensures fits { OnOk result (length bytes.now ≤ 67108864) }
     ensures bad { IfErr result (WhyNotRead (lines_of bytes.now)) }
 {
     let first = cut_line(bytes);
@@ -80,7 +81,9 @@ fn read_lines(
     first: usize,
     rest: Option<&[u8]>,
 ) -> Result<Items<(u32, Line)>, ReadScriptError>
-    requires { first + option_map_or (λ text. length text.now) rest 0 < 2 ^ 64 }
+    requires within { first + option_map_or (λ text. length text.now) rest 0 < 2 ^ 64 }
+    requires begun { first ≤ 67108864 }
+    ensures fits { OnOk result (first + option_map_or (λ text. length text.now) rest.entry 0 ≤ 67108864) }
     ensures good { OnOk result (All IsGood (numbered 2 first (parts_of rest.entry))) }
     ensures ok { IfOk result (Says (numbered 2 first (parts_of rest.entry))) }
     ensures bad { IfErr result (WhyNotRead (numbered 2 first (parts_of rest.entry))) }

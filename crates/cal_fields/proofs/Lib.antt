@@ -1,0 +1,2 @@
+pub mod BigEndianLemmas
+pub mod PaddedLemmas

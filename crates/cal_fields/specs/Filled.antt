@@ -1,0 +1,7 @@
+use Rattle.std.specs.Prelude.{◌≡◌, ◌≤◌, ℕ, List, take}
+use Rattle.cal_fields.specs.Padded.{padded}
+
+-- so many bytes of a sector are filled, and zeros stand behind them
+pub record IsFilled (sector : List ℕ) (filled : ℕ) : Type 0 where
+  pub within : filled ≤ 4096
+  pub behind : sector ≡ padded 4096 (take filled sector)

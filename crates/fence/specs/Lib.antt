@@ -1,0 +1,3 @@
+pub mod Halts
+pub mod Port
+pub mod Writes

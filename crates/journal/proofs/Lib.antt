@@ -1,0 +1,9 @@
+pub mod Attempting
+pub mod AfterCommit
+pub mod Copies
+pub mod Headers
+pub mod Law
+pub mod Moments
+pub mod Sectors
+pub mod Replaying
+pub mod Stable

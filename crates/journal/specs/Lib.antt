@@ -1,0 +1,5 @@
+pub mod Halts
+pub mod Commit
+pub mod Layout
+pub mod Replay
+pub mod Replays

@@ -1,0 +1,4 @@
+pub mod Disk
+pub mod Faulty
+pub mod Homes
+pub mod Sectors

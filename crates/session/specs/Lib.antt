@@ -1,0 +1,4 @@
+pub mod Body
+pub mod Session
+pub mod Delivery
+pub mod SessionFields

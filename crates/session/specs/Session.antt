@@ -1,0 +1,97 @@
+use Rattle.std.specs.Prelude.{◌≡◌, ◌==◌, ◌||◌, ◌≤◌, ◌+◌, ◌-◌, ◌^◌, ◌++◌, ◌∷◌, [], ℕ, Bool, List, Option, Some, None, nat_lt, if◌then◌else◌, length, min, take, drop}
+use Rattle.cal_base.specs.declared.identity.NodeId.{NodeId}
+use Rattle.cal_base.specs.declared.identity.View.{View}
+use Rattle.session.specs.declared.packet.Packet.{Packet}
+
+-- One end of a session: the messages of its own that the peer has acknowledged, the messages of the
+-- peer that it has taken, and the bodies that are not acknowledged, the oldest first.
+pub record SessionState : Type 0 where
+  pub me : NodeId
+  pub peer : NodeId
+  pub view : View
+  pub acknowledged : ℕ
+  pub taken : ℕ
+  pub bodies : List (List ℕ)
+  pub steps : ℕ
+
+-- a session as it begins
+abbrev pub new_session : NodeId → NodeId → View → SessionState
+new_session me peer view = record { me = me; peer = peer; view = view; acknowledged = 0; taken = 0; bodies = []; steps = 0 }
+
+-- the bodies that were sent and are not acknowledged: the first eight that are not acknowledged
+abbrev pub unacknowledged : SessionState → List (List ℕ)
+unacknowledged s = take 8 s.bodies
+
+-- the bodies that wait until one of those is acknowledged
+abbrev pub queued : SessionState → List (List ℕ)
+queued s = drop 8 s.bodies
+
+-- how many messages have a number
+abbrev pub numbered : SessionState → ℕ
+numbered s = s.acknowledged + length (unacknowledged s)
+
+-- a packet to the peer that says how many of its messages were taken
+abbrev pub packet_of : SessionState → ℕ → ℕ → List ℕ → Packet
+packet_of s taken number body = record { from = s.me; to = s.peer; view = s.view; seq = number; ack = taken; body = body }
+
+-- packets with numbers one above the other
+abbrev pub packets_from : SessionState → ℕ → ℕ → List (List ℕ) → List Packet
+packets_from s taken number [] = []
+packets_from s taken number (body ∷ bodies) = packet_of s taken number body ∷ packets_from s taken (number + 1) bodies
+
+-- a packet that acknowledges, and carries no message
+abbrev pub bare_ack_of : SessionState → Packet
+bare_ack_of s = packet_of s s.taken 0 []
+
+-- what goes out as a message is sent: nothing where eight are unacknowledged
+abbrev pub sent_packet : SessionState → List ℕ → Option Packet
+sent_packet s body = if nat_lt (length s.bodies) 8 then Some (packet_of s s.taken (s.acknowledged + length s.bodies + 1) body) else None
+
+abbrev pub after_send : SessionState → List ℕ → SessionState
+after_send s body = record s { bodies = s.bodies ++ body ∷ []; steps = s.steps + 1 }
+
+-- the oldest message that is not acknowledged, sent again
+abbrev pub oldest_packet : SessionState → List (List ℕ) → Option Packet
+oldest_packet s [] = None
+oldest_packet s (body ∷ bodies) = Some (packet_of s s.taken (s.acknowledged + 1) body)
+
+abbrev pub tick_packet : SessionState → Option Packet
+tick_packet s = oldest_packet s s.bodies
+
+-- a packet belongs to this session
+pub record IsOfSession (s : SessionState) (p : Packet) : Type 0 where
+  pub from : p.from ≡ s.peer
+  pub to : p.to ≡ s.me
+  pub view : p.view ≡ s.view
+
+-- its message is the next one
+abbrev pub is_next : SessionState → Packet → Bool
+is_next s p = p.seq == s.taken + 1
+
+abbrev pub taken_after : SessionState → Packet → ℕ
+taken_after s p = if is_next s p then s.taken + 1 else s.taken
+
+abbrev pub taken_body : SessionState → Packet → Option (List ℕ)
+taken_body s p = if is_next s p then Some p.body else None
+
+-- how many more messages it acknowledges, of those that were sent
+abbrev pub newly_acknowledged : SessionState → Packet → ℕ
+newly_acknowledged s p = min (p.ack - s.acknowledged) (length (unacknowledged s))
+
+-- as many messages leave the queue as are acknowledged
+abbrev pub opened_packets : SessionState → Packet → List Packet
+opened_packets s p = packets_from s (taken_after s p) (numbered s + 1) (take (newly_acknowledged s p) (queued s))
+
+abbrev pub after_packet : SessionState → Packet → SessionState
+after_packet s p = record s {
+  acknowledged = s.acknowledged + newly_acknowledged s p;
+  taken = taken_after s p;
+  bodies = drop (newly_acknowledged s p) s.bodies;
+  steps = if is_next s p || nat_lt 0 (newly_acknowledged s p) then s.steps + 1 else s.steps;
+}
+
+-- the counts of a session are no more than the calls that changed it, and these are few
+pub record IsCounted (s : SessionState) : Type 0 where
+  pub sent : s.acknowledged + length s.bodies ≤ s.steps
+  pub taken : s.taken ≤ s.steps
+  pub few : s.steps ≤ 2 ^ 56

@@ -1,0 +1,9 @@
+use Rattle.std.proofs.Common.{◌-◌, ◌≤◌}
+use Rattle.space_map.specs.SpaceMap.{AreFull}
+use Rattle.space_map.proofs.bits.first_open_byte.Given as goal
+
+abbrev pub invariant-loop-at : goal.invariant-loop-at
+invariant-loop-at l = record { later : l.from ≤ l.at; within : l.at ≤ 256; full : AreFull l.bytes l.at }
+
+abbrev pub decreases-loop-at : goal.decreases-loop-at
+decreases-loop-at l = 256 - l.at

@@ -3,6 +3,7 @@
 //! A source or a sink answers [`Failed`] only where its count of faults rose in that call.
 #![tactic(auto)]
 
+mod cut;
 mod directory_entry;
 mod failed;
 mod fault_sink;
@@ -20,6 +21,7 @@ mod std_source;
 #[cfg(test)]
 mod tests;
 
+pub use cut::cut_at;
 pub use directory_entry::{DirectoryEntry, EntryKind};
 pub use failed::Failed;
 pub use fault_sink::FaultSink;

@@ -1,0 +1,10 @@
+pub mod Conflicts
+pub mod Counts
+pub mod Drops
+pub mod Grants
+pub mod Keeps
+pub mod Keys
+pub mod Lists
+pub mod Opened
+pub mod Order
+pub mod Writes

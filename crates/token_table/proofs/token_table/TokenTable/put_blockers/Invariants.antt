@@ -1,0 +1,7 @@
+use Rattle.std.proofs.Common.{◌≡◌, ◌++◌}
+use Rattle.std.specs.List.{filter_map}
+use Rattle.token_table.specs.Blockers.{blocker_of, clients_below}
+use Rattle.token_table.proofs.token_table.TokenTable.put_blockers.Given as goal
+
+abbrev pub invariant-loop-number : goal.invariant-loop-number
+invariant-loop-number l = l.out ≡ l.initial.out ++ filter_map (blocker_of l.self l.c l.need) (clients_below l.number)

@@ -1,0 +1,19 @@
+use Rattle.std.specs.Prelude.{ℕ}
+use Rattle.cluster_run.specs.declared.print.PrintError.{PrintError}
+use Rattle.cluster_run.specs.declared.print.PrintError.TheVariants.{WriteFault as NotWritten, OutOfMemory as NoRoom}
+use Rattle.cluster_run.specs.declared.status.Status.{Status}
+use Rattle.cluster_run.specs.declared.status.Status.TheVariants.{Ok, Usage, BadScript, ReadFault, WriteFault, OutOfMemory}
+
+-- the exit status of a program
+abbrev pub code_of : Status → ℕ
+code_of Ok = 0
+code_of Usage = 2
+code_of BadScript = 3
+code_of ReadFault = 4
+code_of WriteFault = 5
+code_of OutOfMemory = 7
+
+-- how a run ends whose text isn't printed
+abbrev pub status_of : PrintError → Status
+status_of NotWritten = WriteFault
+status_of NoRoom = OutOfMemory

@@ -1,0 +1,95 @@
+-- The text of a run, line by line.
+use Rattle.std.specs.Prelude.{ℕ, List, [], ◌∷◌, ◌++◌, length, codes, Option, Some, None}
+use Rattle.std.specs.Fmt.{decimal}
+use Rattle.cal_base.specs.declared.identity.Ino.{Ino}
+use Rattle.tree_law.specs.Path.{path_text}
+use Rattle.tree_law.specs.declared.call.Call.{Call}
+use Rattle.tree_law.specs.declared.reply.Reply.{Reply}
+use Rattle.tree_law.specs.declared.reply.Reply.TheVariants.{Done, File, Dir, Names, Refused}
+use Rattle.tree_law.specs.declared.reply.Why.{Why}
+use Rattle.tree_law.specs.declared.reply.Why.TheVariants.{Exist, NoEnt, NotDir, NoSpace, NoInode, DirFull}
+use Rattle.tree_law.specs.declared.entry.Entry.{Entry}
+use Rattle.tree_law.specs.declared.entry.Entry.TheVariants.{Call as Called}
+use Rattle.script.specs.CallLine.{command_of, path_of}
+use Rattle.script.specs.declared.bad_line.BadLine.{BadLine}
+use Rattle.script.specs.declared.bad_line.BadWhy.{BadWhy}
+use Rattle.script.specs.declared.bad_line.BadWhy.TheVariants.{Big, Many, Long, Byte, First, Unbuilt}
+use Rattle.cal_base.specs.declared.identity.ClientId.{ClientId}
+use Rattle.cluster_run.specs.Trace.{Step}
+
+-- a line with its line feed
+abbrev pub line : List ℕ → List ℕ
+line text = text ++ 10 ∷ []
+
+abbrev pub call_text : Call → List ℕ
+call_text call = command_of call ++ codes " " ++ path_text (path_of call)
+
+abbrev pub why_text : Why → List ℕ
+why_text Exist = codes "EEXIST"
+why_text NoEnt = codes "ENOENT"
+why_text NotDir = codes "ENOTDIR"
+why_text (NoSpace free needed) = codes "NOSPACE " ++ decimal free ++ codes " " ++ decimal needed
+why_text NoInode = codes "NOINODE"
+why_text DirFull = codes "DIRFULL"
+
+-- each name after a space
+abbrev pub spaced : List (List ℕ) → List ℕ
+spaced [] = []
+spaced (name ∷ names) = 32 ∷ (name ++ spaced names)
+
+abbrev pub reply_text : Reply → List ℕ
+reply_text Done = codes "ok"
+reply_text (File size) = codes "ok file " ++ decimal size
+reply_text Dir = codes "ok dir"
+reply_text (Names names) = codes "ok " ++ decimal (length names) ++ spaced names
+reply_text (Refused why) = why_text why
+
+-- the new inode, or a dash
+abbrev pub new_text : Option Ino → List ℕ
+new_text None = codes "-"
+new_text (Some ino) = decimal ino.0
+
+abbrev pub step_line : ℕ → ClientId → ℕ → Call → List ℕ
+step_line index client number call = codes "step " ++ decimal index ++ codes " c" ++ decimal client.0 ++ codes " start " ++ decimal number ++ codes " " ++ call_text call
+
+abbrev pub entry_front : ClientId → ℕ → Option Ino → List ℕ
+entry_front client number new = codes "entry call c" ++ decimal client.0 ++ codes " " ++ decimal number ++ codes " new " ++ new_text new
+
+abbrev pub call_entry_line : ClientId → ℕ → Reply → Option Ino → List ℕ
+call_entry_line client number reply new = entry_front client number new ++ codes " reply " ++ reply_text reply
+
+abbrev pub entry_line : Entry → List ℕ
+entry_line (Called client number call reply new) = call_entry_line client number reply new
+
+abbrev pub answer_line : ClientId → ℕ → Reply → List ℕ
+answer_line client number reply = codes "ans c" ++ decimal client.0 ++ codes " " ++ decimal number ++ codes " " ++ reply_text reply
+
+-- the lines of a step, of which so many were made before
+abbrev pub step_text : ℕ → Step → List ℕ
+step_text index step = line (step_line index step.client step.number step.call) ++ line (entry_line step.entry) ++ line (answer_line step.client step.number step.reply)
+
+abbrev pub run_line : List ℕ
+run_line = codes "run clients 1 window 4"
+
+-- the first line and those of the steps
+abbrev pub steps_text : List Step → List ℕ
+steps_text [] = line run_line
+steps_text (step ∷ earlier) = steps_text earlier ++ step_text (length earlier) step
+
+abbrev pub end_line : List Step → List ℕ
+end_line steps = codes "end " ++ decimal (length steps)
+
+-- the whole text of a run
+abbrev pub run_text : List Step → List ℕ
+run_text steps = steps_text steps ++ line (end_line steps)
+
+abbrev pub bad_why_text : BadWhy → List ℕ
+bad_why_text Big = codes "Big"
+bad_why_text Many = codes "Many"
+bad_why_text Long = codes "Long"
+bad_why_text Byte = codes "Byte"
+bad_why_text First = codes "First"
+bad_why_text Unbuilt = codes "Unbuilt"
+
+abbrev pub bad_line : BadLine → List ℕ
+bad_line bad = codes "BadScript " ++ decimal bad.line ++ codes " " ++ bad_why_text bad.why

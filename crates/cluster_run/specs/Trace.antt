@@ -1,0 +1,72 @@
+-- What a run did: its steps, newest first, and what is promised of them.
+use Rattle.std.specs.Prelude.{◌≡◌, ◌+◌, ◌&&◌, ◌==◌, ℕ, Bool, List, [], ◌∷◌, length, All, slice_get, Option, Some, None, IfSome, ⊤}
+use Rattle.std.specs.List.{filter}
+use Rattle.cal_base.specs.declared.identity.ClientId.{ClientId}
+use Rattle.cal_base.specs.declared.identity.Ino.{Ino}
+use Rattle.tree_law.specs.Tree.{Tree, IsLeastFree, IsFull}
+use Rattle.tree_law.specs.Answer.{answer}
+use Rattle.tree_law.specs.Legal.{Makes, tree_of}
+use Rattle.tree_law.specs.declared.call.Call.{Call}
+use Rattle.tree_law.specs.declared.reply.Reply.{Reply}
+use Rattle.tree_law.specs.declared.reply.Reply.TheVariants.{Refused}
+use Rattle.tree_law.specs.declared.reply.Why.TheVariants.{NoInode}
+use Rattle.tree_law.specs.declared.entry.Entry.{Entry}
+use Rattle.tree_law.specs.declared.entry.Entry.TheVariants.{Call as Called}
+use Rattle.script.specs.declared.script.Line.{Line}
+use Rattle.script.specs.declared.script.Line.TheVariants.{Call as Calls}
+
+-- a step: a client starts a call, which is carried out and answered at once
+pub record Step : Type 0 where
+  pub client : ClientId
+  pub number : ℕ
+  pub call : Call
+  pub entry : Entry
+  pub reply : Reply
+
+-- the entries of the steps, newest first
+abbrev pub history : List Step → List Entry
+history [] = []
+history (step ∷ earlier) = step.entry ∷ history earlier
+
+-- a step starts the call of this line, with the next number
+abbrev pub Starts : Option (ℕ × Line) → ℕ → Step → Type 0
+Starts None number step = ⊥
+Starts (Some (line, Calls client call)) number step = (step.client ≡ client) × (step.number ≡ number) × (step.call ≡ call)
+
+-- each step starts the call of the next line of the script
+abbrev pub Follows : List (ℕ × Line) → List Step → Type 0
+Follows lines [] = ⊤
+Follows lines (step ∷ earlier) = Starts (slice_get lines (length earlier)) (length earlier + 1) step × Follows lines earlier
+
+-- a step's entry is that of its call, with the reply that it answers
+pub record IsOwn (step : Step) : Type 0 where
+  pub new : Option Ino
+  pub entry_is : step.entry ≡ Called step.client step.number step.call step.reply new
+
+-- whether an entry is of this call
+abbrev pub is_entry_of : ClientId → ℕ → Entry → Bool
+is_entry_of of number (Called client n call reply new) = (client.0 == of.0) && (n == number)
+
+-- the entries of a call
+abbrev pub entries_of : ClientId → ℕ → List Entry → List Entry
+entries_of client number entries = filter (is_entry_of client number) entries
+
+-- each call that was answered has exactly one entry in the history, in its step, with the reply answered
+pub record OnceEach (steps : List Step) : Type 0 where
+  pub own : All IsOwn steps
+  pub once : All (λ step. entries_of step.client step.number (history steps) ≡ step.entry ∷ []) steps
+
+-- the reply is the tree's own, but NOINODE where a name would be made and all inodes are in use;
+-- a new inode is the least free one
+pub record IsServed (tree : Tree) (call : Call) (reply : Reply) (new : Option Ino) : Type 0 where
+  pub full : Makes tree call → IsFull tree → reply ≡ Refused NoInode
+  pub own : ¬ (Makes tree call × IsFull tree) → reply ≡ answer tree call
+  pub least : IfSome new (IsLeastFree tree)
+
+abbrev pub IsServedEntry : Tree → Entry → Type 0
+IsServedEntry tree (Called client number call reply new) = IsServed tree call reply new
+
+-- each entry is served so by the tree before it
+abbrev pub AreServed : List Entry → Type 0
+AreServed [] = ⊤
+AreServed (entry ∷ earlier) = IsServedEntry (tree_of earlier) entry × AreServed earlier

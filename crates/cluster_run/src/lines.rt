@@ -1,0 +1,71 @@
+ghost use Rattle.std.specs.Prelude.{◌+◌, ◌^◌, ◌<◌};
+ghost use Rattle.cluster_run.specs.Printing.{Held};
+ghost use Rattle.cluster_run.specs.Running.{MakesStep, MakesLine, RunsLines};
+
+use crate::print::{PrintError, print};
+use crate::serve::serve;
+use crate::text::{end_text, step_lines};
+use cal_base::{ClientId, Sink};
+use script::Line;
+use std::alloc::Global;
+use tree_law::{Call, PlainTree};
+
+/// Carries out a call as the next step, and prints its lines.
+fn run_step<K: Sink>(
+    alloc: Global,
+    sink: &mut K,
+    tree: &mut PlainTree,
+    index: u64,
+    client: ClientId,
+    call: &Call,
+) -> Result<(), PrintError>
+    requires { index + 1 < 2 ^ 64 }
+    ensures { MakesStep tree.old index client call.now (record { held = K.held sink.old; faults = K.fault_count sink.old }) result (record { held = K.held sink.new; faults = K.fault_count sink.new }) tree.new }
+{
+    let served = serve(alloc, tree, call)?;
+    let lines = step_lines(alloc, index, client, index + 1, call, &served)?;
+    print(sink, lines.as_slice())
+}
+
+/// Carries out a line of a script as the next step.
+fn run_line<K: Sink>(
+    alloc: Global,
+    sink: &mut K,
+    tree: &mut PlainTree,
+    index: u64,
+    line: &(u32, Line),
+) -> Result<(), PrintError>
+    requires { index + 1 < 2 ^ 64 }
+    ensures { MakesLine tree.old index line.now (record { held = K.held sink.old; faults = K.fault_count sink.old }) result (record { held = K.held sink.new; faults = K.fault_count sink.new }) tree.new }
+{
+    match &line.1 {
+        Line::Call(client, call) => run_step(alloc, sink, tree, index, *client, call),
+    }
+}
+
+/// Carries out the lines of a script on a file tree that has the root alone, and prints the text of the
+/// run: the first line, those of each step as it is made, and the last.
+pub(crate) fn run_lines<K: Sink>(
+    alloc: Global,
+    sink: &mut K,
+    lines: &[(u32, Line)],
+) -> Result<(), PrintError>
+    ensures { RunsLines lines.now (record { held = K.held sink.old; faults = K.fault_count sink.old }) result (record { held = K.held sink.new; faults = K.fault_count sink.new }) }
+{
+    if let Err(error) = print(sink, b"run clients 1 window 4\n") {
+        return Err(error);
+    }
+    let Ok(mut tree) = PlainTree::new(alloc) else {
+        return Err(PrintError::OutOfMemory);
+    };
+    for i in 0..lines.len() {
+        match run_line(alloc, sink, &mut tree, i as u64, &lines[i]) {
+            Ok(()) => {}
+            Err(error) => return Err(error),
+        }
+    }
+    let Ok(end) = end_text(alloc, lines.len() as u64) else {
+        return Err(PrintError::OutOfMemory);
+    };
+    print(sink, end.as_slice())
+}

@@ -1,0 +1,49 @@
+ghost use Rattle.std.specs.Prelude.{◌≡◌, IfOk, OnErr};
+ghost use Rattle.tree_law.specs.Legal.{after_call};
+ghost use Rattle.cluster_run.specs.Serving.{IsServedReply};
+
+use cal_base::{Ino, Oom};
+use std::alloc::Global;
+use tree_law::{Call, PlainTree, Reply, Why};
+
+/// The reply of a call, and the inode that it makes.
+#[derive(Drop)]
+pub(crate) struct Served {
+    pub reply: Reply,
+    pub new_ino: Option<Ino>,
+}
+
+/// What the tree answers a call: its own answer with the least free inode, or NOINODE where a name would
+/// be made and no inode is free.
+fn reply_to(alloc: Global, tree: &PlainTree, call: &Call) -> Result<Served, Oom>
+    ensures { IfOk result (IsServedReply tree.now call.now) }
+{
+    if !tree.makes(call) {
+        let reply = tree.answer(alloc, call)?;
+        return Ok(Served {
+            reply,
+            new_ino: None,
+        });
+    }
+    match tree.least_free() {
+        Some(ino) => Ok(Served {
+            reply: Reply::Done,
+            new_ino: Some(ino),
+        }),
+        None => Ok(Served {
+            reply: Reply::Refused(Why::NoInode),
+            new_ino: None,
+        }),
+    }
+}
+
+/// Carries out a call: answers it and changes the tree.
+pub(crate) fn serve(alloc: Global, tree: &mut PlainTree, call: &Call) -> Result<Served, Oom>
+    ensures served { IfOk result (IsServedReply tree.old call.now) }
+    ensures tree { IfOk result (λ served. tree.new ≡ after_call tree.old call.now served.reply served.new_ino) }
+    ensures oom { OnErr result (tree.new ≡ tree.old) }
+{
+    let served = reply_to(alloc, tree, call)?;
+    tree.change(call, &served.reply, served.new_ino)?;
+    Ok(served)
+}

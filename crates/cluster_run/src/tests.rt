@@ -1,0 +1,116 @@
+use crate::{Status, run_cluster};
+use cal_base::{FaultSink, FaultSource, MemSink, MemSource};
+use std::alloc::Global;
+use std::test::Fail;
+
+const CALLS: &str =
+    "clients 1\nc0 mkdir /d\nc0 create /d/a\nc0 stat /d/a\nc0 readdir /\nc0 stat /x";
+
+const TEXT: &str = "run clients 1 window 4\n\
+step 0 c0 start 1 mkdir /d\nentry call c0 1 new 1 reply ok\nans c0 1 ok\n\
+step 1 c0 start 2 create /d/a\nentry call c0 2 new 2 reply ok\nans c0 2 ok\n\
+step 2 c0 start 3 stat /d/a\nentry call c0 3 new - reply ok file 0\nans c0 3 ok file 0\n\
+step 3 c0 start 4 readdir /\nentry call c0 4 new - reply ok 1 d\nans c0 4 ok 1 d\n\
+step 4 c0 start 5 stat /x\nentry call c0 5 new - reply ENOENT\nans c0 5 ENOENT\n\
+end 5\n";
+
+/// How a run ends, and what it printed.
+#[derive(Drop)]
+struct Outcome {
+    status: Status,
+    printed: FaultSink,
+}
+
+/// Runs a script from memory, with faults at the listed reads and writes.
+fn run_in_memory(
+    alloc: Global,
+    words: &[&str],
+    script: &[u8],
+    reads: Vec<u64>,
+    writes: Vec<u64>,
+) -> Result<Outcome, Fail> {
+    let mut source = FaultSource::new(MemSource::new(script.to_vec(alloc)?), reads);
+    let memory = MemSink::new(alloc).ok().ok_or("no memory")?;
+    let mut printed = FaultSink::new(memory, writes);
+    let status = run_cluster(alloc, words, &mut source, &mut printed);
+    Ok(Outcome { status, printed })
+}
+
+#[test]
+fn runs_end_as_their_scripts_and_words_say(rt: HostRuntime) -> Result<(), Fail> {
+    let alloc = rt.alloc();
+    let run = ["run"].as_slice();
+    let runs = [
+        (run, CALLS, 0, TEXT),
+        (run, "clients 1", 0, "run clients 1 window 4\nend 0\n"),
+        (run, "", 3, "BadScript 1 First\n"),
+        (run, "clients 1\nc0 open /a r\n", 3, "BadScript 2 Unbuilt\n"),
+        (["run", "now"].as_slice(), CALLS, 2, "Usage\n"),
+        (["-h"].as_slice(), CALLS, 2, "Usage\n"),
+        ([].as_slice(), CALLS, 2, "Usage\n"),
+    ];
+    for (words, script, code, text) in runs {
+        let ended = run_in_memory(
+            alloc,
+            words,
+            script.as_bytes(),
+            Vec::new(alloc),
+            Vec::new(alloc),
+        )?;
+        assert_eq!(rt; ended.status.code(), code, "{script}");
+        assert!(rt; ended.printed.bytes() == text.as_bytes(), "{script}");
+    }
+    Ok(())
+}
+
+#[test]
+fn a_failing_edge_ends_the_run(rt: HostRuntime) -> Result<(), Fail> {
+    let alloc = rt.alloc();
+    let run = ["run"].as_slice();
+    for call in 0..2 {
+        let reads = vec![in alloc; call]?;
+        let ended = run_in_memory(alloc, run, CALLS.as_bytes(), reads, Vec::new(alloc))?;
+        assert_eq!(rt; ended.status.code(), 4);
+        assert!(rt; ended.printed.bytes() == b"ReadFault\n".as_slice());
+    }
+    let mut whole = 0;
+    for (call, line) in TEXT.lines().enumerate() {
+        let writes = vec![in alloc; call as u64]?;
+        let ended = run_in_memory(alloc, run, CALLS.as_bytes(), Vec::new(alloc), writes)?;
+        assert_eq!(rt; ended.status.code(), 5, "{line}");
+        assert_eq!(rt; ended.printed.bytes().len(), whole, "{line}");
+        assert!(rt;
+            TEXT.as_bytes().starts_with(ended.printed.bytes()),
+            "{line}"
+        );
+        whole = ended
+            .printed
+            .bytes()
+            .len()
+            .saturating_add(line.len())
+            .saturating_add(1);
+    }
+    Ok(())
+}
+
+#[test]
+fn the_last_inode_is_taken(rt: HostRuntime) -> Result<(), Fail> {
+    let alloc = rt.alloc();
+    let mut script = b"clients 1\n".to_vec(alloc)?;
+    for file in 0..512u32 {
+        let line = format!(in alloc; "c0 create /f{file}\n")?;
+        script.extend_from_slice(line.as_bytes())?;
+    }
+    let ended = run_in_memory(
+        alloc,
+        ["run"].as_slice(),
+        script.as_slice(),
+        Vec::new(alloc),
+        Vec::new(alloc),
+    )?;
+    assert_eq!(rt; ended.status.code(), 0);
+    let last =
+        b"entry call c0 511 new 511 reply ok\nans c0 511 ok\nstep 511 c0 start 512 create /f511\nentry call c0 512 new - reply NOINODE\nans c0 512 NOINODE\nend 512\n";
+    assert!(rt; ended.printed.bytes().ends_with(last));
+    Ok(())
+}

@@ -1,0 +1,272 @@
+ghost use Rattle.std.specs.Prelude.{◌≡◌, ◌++◌, codes, IfOk, OnOk};
+ghost use Rattle.std.specs.Fmt.{decimal};
+ghost use Rattle.tree_law.specs.Path.{path_text, slashed};
+ghost use Rattle.tree_law.specs.declared.entry.Entry.TheVariants.{Call as Called};
+ghost use Rattle.script.specs.CallLine.{command_of};
+ghost use Rattle.cluster_run.specs.Text.{line, call_text, why_text, spaced, reply_text, new_text, step_line, entry_front, call_entry_line, answer_line, step_text, bad_why_text, bad_line};
+
+use crate::serve::Served;
+use cal_base::{Blob, ClientId, Ino, NameList, Oom};
+use script::{BadLine, BadWhy};
+use std::alloc::Global;
+use tree_law::{Call, Path, Reply, Why};
+
+/// Puts bytes behind a text.
+fn put_bytes(text: &mut Vec<u8>, bytes: &[u8]) -> Result<(), Oom>
+    ensures { OnOk result (text.new.items ≡ text.old.items ++ bytes.now) }
+{
+    text.extend_from_slice(bytes)?;
+    Ok(())
+}
+
+/// Puts words behind a text.
+fn put(text: &mut Vec<u8>, words: &str) -> Result<(), Oom>
+    ensures { OnOk result (text.new.items ≡ text.old.items ++ words.now) }
+{
+    put_bytes(text, words.as_bytes())
+}
+
+/// Puts a number behind a text, in decimal.
+fn put_number(alloc: Global, text: &mut Vec<u8>, number: u64) -> Result<(), Oom>
+    ensures { OnOk result (text.new.items ≡ text.old.items ++ decimal number) }
+{
+    let digits = number.to_string(alloc)?;
+    put(text, digits.as_str())
+}
+
+/// Puts words and a number behind a text.
+fn put_field(alloc: Global, text: &mut Vec<u8>, words: &str, number: u64) -> Result<(), Oom>
+    ensures { OnOk result (text.new.items ≡ text.old.items ++ words.now ++ decimal number) }
+{
+    put(text, words)?;
+    put_number(alloc, text, number)
+}
+
+/// Puts each name behind a slash.
+fn put_slashed(text: &mut Vec<u8>, names: &[Blob]) -> Result<(), Oom>
+    ensures { OnOk result (text.new.items ≡ text.old.items ++ slashed names.now) }
+{
+    for name in names {
+        put(text, "/")?;
+        put_bytes(text, name.as_slice())?;
+    }
+    Ok(())
+}
+
+/// Puts a path as it is written.
+fn put_path(text: &mut Vec<u8>, path: &Path) -> Result<(), Oom>
+    ensures { OnOk result (text.new.items ≡ text.old.items ++ path_text path.now) }
+{
+    if path.names().is_empty() {
+        return put(text, "/");
+    }
+    put_slashed(text, path.names())
+}
+
+/// The word of a call.
+fn command(call: &Call) -> &'static str
+    ensures { result.now ≡ command_of call.now }
+{
+    match call {
+        Call::Create(_) => "create",
+        Call::Mkdir(_) => "mkdir",
+        Call::Stat(_) => "stat",
+        Call::Readdir(_) => "readdir",
+    }
+}
+
+/// Puts a call as a script spells it.
+fn put_call(text: &mut Vec<u8>, call: &Call) -> Result<(), Oom>
+    ensures { OnOk result (text.new.items ≡ text.old.items ++ call_text call.now) }
+{
+    put(text, command(call))?;
+    put(text, " ")?;
+    match call {
+        Call::Create(path) => put_path(text, path),
+        Call::Mkdir(path) => put_path(text, path),
+        Call::Stat(path) => put_path(text, path),
+        Call::Readdir(path) => put_path(text, path),
+    }
+}
+
+/// Puts each name behind a space.
+fn put_spaced(text: &mut Vec<u8>, names: &[Blob]) -> Result<(), Oom>
+    ensures { OnOk result (text.new.items ≡ text.old.items ++ spaced names.now) }
+{
+    for name in names {
+        put(text, " ")?;
+        put_bytes(text, name.as_slice())?;
+    }
+    Ok(())
+}
+
+/// Puts the names of a directory behind their count.
+fn put_names(alloc: Global, text: &mut Vec<u8>, names: &NameList) -> Result<(), Oom>
+    ensures { OnOk result (text.new.items ≡ text.old.items ++ reply_text (Reply.Names names.now)) }
+{
+    put_field(alloc, text, "ok ", names.len() as u64)?;
+    put_spaced(text, names.as_slice())
+}
+
+/// Puts why a call is refused.
+fn put_why(alloc: Global, text: &mut Vec<u8>, why: Why) -> Result<(), Oom>
+    ensures { OnOk result (text.new.items ≡ text.old.items ++ why_text why) }
+{
+    match why {
+        Why::Exist => put(text, "EEXIST"),
+        Why::NoEnt => put(text, "ENOENT"),
+        Why::NotDir => put(text, "ENOTDIR"),
+        Why::NoSpace { free, needed } => {
+            put_field(alloc, text, "NOSPACE ", u64::from(free))?;
+            put_field(alloc, text, " ", u64::from(needed))
+        }
+        Why::NoInode => put(text, "NOINODE"),
+        Why::DirFull => put(text, "DIRFULL"),
+    }
+}
+
+/// Puts a reply.
+fn put_reply(alloc: Global, text: &mut Vec<u8>, reply: &Reply) -> Result<(), Oom>
+    ensures { OnOk result (text.new.items ≡ text.old.items ++ reply_text reply.now) }
+{
+    match reply {
+        Reply::Done => put(text, "ok"),
+        Reply::File(size) => put_field(alloc, text, "ok file ", u64::from(*size)),
+        Reply::Dir => put(text, "ok dir"),
+        Reply::Names(names) => put_names(alloc, text, names),
+        Reply::Refused(why) => put_why(alloc, text, *why),
+    }
+}
+
+/// Puts a new inode, or a dash where there is none.
+fn put_new_inode(alloc: Global, text: &mut Vec<u8>, new_ino: Option<Ino>) -> Result<(), Oom>
+    ensures { OnOk result (text.new.items ≡ text.old.items ++ new_text new_ino) }
+{
+    match new_ino {
+        Some(ino) => put_number(alloc, text, u64::from(ino.0)),
+        None => put(text, "-"),
+    }
+}
+
+/// Puts the line that tells a step's event.
+fn put_step_line(
+    alloc: Global,
+    text: &mut Vec<u8>,
+    index: u64,
+    client: ClientId,
+    number: u64,
+    call: &Call,
+) -> Result<(), Oom>
+    ensures { OnOk result (text.new.items ≡ text.old.items ++ line (step_line index client number call.now)) }
+{
+    put_field(alloc, text, "step ", index)?;
+    put_field(alloc, text, " c", u64::from(client.0))?;
+    put_field(alloc, text, " start ", number)?;
+    put(text, " ")?;
+    put_call(text, call)?;
+    put(text, "\n")
+}
+
+/// Puts the front of the line of the entry of a call: the call and the inode that it made.
+fn put_entry_front(
+    alloc: Global,
+    text: &mut Vec<u8>,
+    client: ClientId,
+    number: u64,
+    new_ino: Option<Ino>,
+) -> Result<(), Oom>
+    ensures { OnOk result (text.new.items ≡ text.old.items ++ entry_front client number new_ino) }
+{
+    put_field(alloc, text, "entry call c", u64::from(client.0))?;
+    put_field(alloc, text, " ", number)?;
+    put(text, " new ")?;
+    put_new_inode(alloc, text, new_ino)?;
+    Ok(())
+}
+
+/// Puts the line of the entry of a call.
+fn put_entry_line(
+    alloc: Global,
+    text: &mut Vec<u8>,
+    client: ClientId,
+    number: u64,
+    served: &Served,
+) -> Result<(), Oom>
+    ensures { OnOk result (text.new.items ≡ text.old.items ++ line (call_entry_line client number served.now.reply served.now.new_ino)) }
+{
+    put_entry_front(alloc, text, client, number, served.new_ino)?;
+    put(text, " reply ")?;
+    put_reply(alloc, text, &served.reply)?;
+    put(text, "\n")
+}
+
+/// Puts the line of an answer.
+fn put_answer_line(
+    alloc: Global,
+    text: &mut Vec<u8>,
+    client: ClientId,
+    number: u64,
+    reply: &Reply,
+) -> Result<(), Oom>
+    ensures { OnOk result (text.new.items ≡ text.old.items ++ line (answer_line client number reply.now)) }
+{
+    put_field(alloc, text, "ans c", u64::from(client.0))?;
+    put_field(alloc, text, " ", number)?;
+    put(text, " ")?;
+    put_reply(alloc, text, reply)?;
+    put(text, "\n")
+}
+
+/// The lines of a step: its event, the entry of its call, and its answer.
+pub(crate) fn step_lines(
+    alloc: Global,
+    index: u64,
+    client: ClientId,
+    number: u64,
+    call: &Call,
+    served: &Served,
+) -> Result<Vec<u8>, Oom>
+    ensures { IfOk result (λ text. text.items ≡ step_text index (record { client = client; number = number; call = call.now; entry = Called client number call.now served.now.reply served.now.new_ino; reply = served.now.reply })) }
+{
+    let mut text = Vec::new(alloc);
+    put_step_line(alloc, &mut text, index, client, number, call)?;
+    put_entry_line(alloc, &mut text, client, number, served)?;
+    put_answer_line(alloc, &mut text, client, number, &served.reply)?;
+    Ok(text)
+}
+
+/// The line that tells how many steps were made.
+pub(crate) fn end_text(alloc: Global, steps: u64) -> Result<Vec<u8>, Oom>
+    ensures { IfOk result (λ text. text.items ≡ line (codes "end " ++ decimal steps)) }
+{
+    let mut text = Vec::new(alloc);
+    put_field(alloc, &mut text, "end ", steps)?;
+    put(&mut text, "\n")?;
+    Ok(text)
+}
+
+/// The word of a reason.
+fn bad_why(why: BadWhy) -> &'static str
+    ensures { result.now ≡ bad_why_text why }
+{
+    match why {
+        BadWhy::Big => "Big",
+        BadWhy::Many => "Many",
+        BadWhy::Long => "Long",
+        BadWhy::Byte => "Byte",
+        BadWhy::First => "First",
+        BadWhy::Unbuilt => "Unbuilt",
+    }
+}
+
+/// The line of a bad line of a script.
+pub(crate) fn bad_script_text(alloc: Global, bad: BadLine) -> Result<Vec<u8>, Oom>
+    ensures { IfOk result (λ text. text.items ≡ line (bad_line bad)) }
+{
+    let mut text = Vec::new(alloc);
+    put_field(alloc, &mut text, "BadScript ", u64::from(bad.line))?;
+    put(&mut text, " ")?;
+    put(&mut text, bad_why(bad.why))?;
+    put(&mut text, "\n")?;
+    Ok(text)
+}

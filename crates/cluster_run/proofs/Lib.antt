@@ -1,5 +1,6 @@
 pub mod Ends
 pub mod Going
+pub mod Plain
 pub mod Printed
 pub mod Steps
 pub mod Taken

@@ -1,5 +1,5 @@
 -- What a run did: its steps, newest first, and what is promised of them.
-use Rattle.std.specs.Prelude.{◌≡◌, ◌+◌, ◌&&◌, ◌==◌, ℕ, Bool, List, [], ◌∷◌, length, All, slice_get, Option, Some, None, IfSome, ⊤}
+use Rattle.std.specs.Prelude.{◌≡◌, ◌⊎◌, ◌+◌, ◌&&◌, ◌==◌, ℕ, Bool, List, [], ◌∷◌, length, All, slice_get, Option, Some, None, IfSome, ⊤}
 use Rattle.std.specs.List.{filter}
 use Rattle.cal_base.specs.declared.identity.ClientId.{ClientId}
 use Rattle.cal_base.specs.declared.identity.Ino.{Ino}
@@ -9,7 +9,8 @@ use Rattle.tree_law.specs.Legal.{Makes, tree_of}
 use Rattle.tree_law.specs.declared.call.Call.{Call}
 use Rattle.tree_law.specs.declared.reply.Reply.{Reply}
 use Rattle.tree_law.specs.declared.reply.Reply.TheVariants.{Refused}
-use Rattle.tree_law.specs.declared.reply.Why.TheVariants.{NoInode}
+use Rattle.tree_law.specs.declared.reply.Why.{Why}
+use Rattle.tree_law.specs.declared.reply.Why.TheVariants.{NoInode, NoSpace}
 use Rattle.tree_law.specs.declared.entry.Entry.{Entry}
 use Rattle.tree_law.specs.declared.entry.Entry.TheVariants.{Call as Called}
 use Rattle.script.specs.declared.script.Line.{Line}
@@ -56,11 +57,26 @@ pub record OnceEach (steps : List Step) : Type 0 where
   pub own : All IsOwn steps
   pub once : All (λ step. entries_of step.client step.number (history steps) ≡ step.entry ∷ []) steps
 
--- the reply is the tree's own, but NOINODE where a name would be made and all inodes are in use;
--- a new inode is the least free one
+-- a refusal that tells no want of an inode or a block
+abbrev pub IsPlainWhy : Why → Type 0
+IsPlainWhy NoInode = ⊥
+IsPlainWhy (NoSpace free needed) = ⊥
+IsPlainWhy _ = ⊤
+
+abbrev pub IsPlainReply : Reply → Type 0
+IsPlainReply (Refused why) = IsPlainWhy why
+IsPlainReply _ = ⊤
+
+-- a name would be made, and all inodes are in use
+pub record IsWanting (tree : Tree) (call : Call) : Type 0 where
+  pub makes : Makes tree call
+  pub full : IsFull tree
+
+-- NOINODE is answered exactly where a name would be made and all inodes are in use, else the tree's own
+-- answer, which is never want of an inode or a block; a new inode is the least free one
 pub record IsServed (tree : Tree) (call : Call) (reply : Reply) (new : Option Ino) : Type 0 where
-  pub full : Makes tree call → IsFull tree → reply ≡ Refused NoInode
-  pub own : ¬ (Makes tree call × IsFull tree) → reply ≡ answer tree call
+  pub wanting : IsWanting tree call → reply ≡ Refused NoInode
+  pub answered : (reply ≡ Refused NoInode × IsWanting tree call) ⊎ (reply ≡ answer tree call × IsPlainReply reply)
   pub least : IfSome new (IsLeastFree tree)
 
 abbrev pub IsServedEntry : Tree → Entry → Type 0

@@ -3,6 +3,7 @@
 #![tactic(auto)]
 
 mod cluster;
+mod laws;
 mod lines;
 mod print;
 mod reading;
@@ -13,4 +14,5 @@ mod tests;
 mod text;
 
 pub use cluster::run_cluster;
+pub use laws::a_good_script_is_run;
 pub use status::Status;

@@ -9,6 +9,8 @@ mod gate;
 mod header;
 mod replay_halt;
 mod replays;
+#[cfg(test)]
+mod tests;
 mod write_back;
 mod write_one;
 

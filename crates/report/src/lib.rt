@@ -2,6 +2,9 @@
 //! is one piece at least, each but the last has 32 holds, and the last alone says that it is the last.
 #![tactic(auto)]
 
+#[cfg(test)]
+mod tests;
+
 ghost use Rattle.std.specs.Prelude.{◌≡◌, ◌+◌, ◌*◌, ◌^◌, ◌≤◌, length, IfOk, All};
 ghost use Rattle.std.specs.List.{flat_map};
 ghost use Rattle.report.specs.Report.{pieces_of, full_piece};

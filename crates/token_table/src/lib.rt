@@ -7,6 +7,8 @@ mod hold_key;
 mod hold_map;
 mod is_held;
 mod put_item;
+#[cfg(test)]
+mod tests;
 mod token_table;
 
 pub use token_table::TokenTable;

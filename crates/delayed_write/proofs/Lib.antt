@@ -1,0 +1,4 @@
+pub mod MarkLemmas
+pub mod ByteLemmas
+pub mod PieceLemmas
+pub mod TurnLemmas

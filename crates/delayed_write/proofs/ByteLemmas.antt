@@ -1,6 +1,6 @@
-use Rattle.std.proofs.Common.{◌≡◌, ◌+◌, ◌-◌, ◌*◌, ◌<◌, ◌≤◌, ◌/◌, ◌%◌, ◌⊎◌, inl, inr, ℕ, zero, suc, List, ◌++◌, take, drop, replicate, length, get_or, refl, sym, ap, ◌∙◌, arith, length-append, min}
+use Rattle.std.proofs.Common.{◌≡◌, ◌+◌, ◌-◌, ◌*◌, ◌<◌, ◌≤◌, ◌/◌, ◌%◌, ◌⊎◌, inl, inr, ℕ, zero, suc, List, ◌++◌, take, drop, replicate, length, get_or, refl, sym, ap, ◌∙◌, arith, length-append}
 use Rattle.std.proofs.lemmas.Bool.{cases_lt}
-use Rattle.std.proofs.lemmas.List.{length-take, length-drop, get_or_append_left, get_or-append_right, get_or-take, get_or-drop, get_or_past, length-replicate, length-take-le, drop-replicate, take-take, take_all}
+use Rattle.std.proofs.lemmas.List.{length-take, get_or_append_left, get_or-append_right, get_or-take, get_or-drop, get_or_past, length-replicate, length-take-le, drop-replicate, take-take, take_all}
 use Rattle.delayed_write.specs.Bytes.{block_at, grown, overlaid, resized, written}
 
 -- a byte of zeros, also past them
@@ -13,8 +13,8 @@ zero_byte (suc n) (suc i) = zero_byte n i
 pub zeros_behind : (contents : List ℕ) (n i : ℕ) → get_or (contents ++ replicate n 0) i 0 ≡ get_or contents i 0
 zeros_behind contents n i =
     elim (cases_lt i (length contents)) as (λ _. get_or (contents ++ replicate n 0) i 0 ≡ get_or contents i 0) [
-      inl within ↦ get_or_append_left contents (replicate n 0) 0 i within
-    | inr past ↦ get_or-append_right contents (replicate n 0) (length contents) i 0 refl past ∙ zero_byte n (i - length contents) ∙ sym (get_or_past contents i 0 past)
+      | inl within ↦ get_or_append_left contents (replicate n 0) 0 i within
+      | inr past ↦ get_or-append_right contents (replicate n 0) (length contents) i 0 refl past ∙ zero_byte n (i - length contents) ∙ sym (get_or_past contents i 0 past)
     ]
 
 -- a byte that a write doesn't name
@@ -24,19 +24,19 @@ written_elsewhere contents offset bytes i h =
     let n : ℕ = offset + length bytes - length contents in
     let wide : List ℕ = contents ++ replicate (offset + length bytes - length contents) 0 in
     let reach : offset + length bytes ≤ length (contents ++ replicate (offset + length bytes - length contents) 0)
-        = omega (arith, length-append contents (replicate (offset + length bytes - length contents) 0), length-replicate {A = ℕ} (offset + length bytes - length contents) 0) in
+    = omega (arith, length-append contents (replicate (offset + length bytes - length contents) 0), length-replicate {A = ℕ} (offset + length bytes - length contents) 0) in
     let size : length (take offset (contents ++ replicate (offset + length bytes - length contents) 0)) ≡ offset = length-take-le offset _ (omega arith) in
     elim h as (λ _. get_or (written contents offset bytes) i 0 ≡ get_or contents i 0) [
-      inl below ↦
-        get_or_append_left (take offset (grown contents (offset + length bytes))) (bytes ++ drop (offset + length bytes) (grown contents (offset + length bytes))) 0 i (omega arith)
-        ∙ get_or-take offset (grown contents (offset + length bytes)) i 0 below
-        ∙ zeros_behind contents (offset + length bytes - length contents) i
-    | inr above ↦
-        get_or-append_right (take offset (grown contents (offset + length bytes))) (bytes ++ drop (offset + length bytes) (grown contents (offset + length bytes))) offset i 0 size (omega arith)
-        ∙ get_or-append_right bytes (drop (offset + length bytes) (grown contents (offset + length bytes))) (length bytes) (i - offset) 0 refl (omega arith)
-        ∙ get_or-drop (offset + length bytes) (grown contents (offset + length bytes)) (i - offset - length bytes) 0
-        ∙ ap (λ (k : ℕ). get_or (grown contents (offset + length bytes)) k 0) (omega arith)
-        ∙ zeros_behind contents (offset + length bytes - length contents) i
+      | inl below ↦
+          get_or_append_left (take offset (grown contents (offset + length bytes))) (bytes ++ drop (offset + length bytes) (grown contents (offset + length bytes))) 0 i (omega arith)
+          ∙ get_or-take offset (grown contents (offset + length bytes)) i 0 below
+          ∙ zeros_behind contents (offset + length bytes - length contents) i
+      | inr above ↦
+          get_or-append_right (take offset (grown contents (offset + length bytes))) (bytes ++ drop (offset + length bytes) (grown contents (offset + length bytes))) offset i 0 size (omega arith)
+          ∙ get_or-append_right bytes (drop (offset + length bytes) (grown contents (offset + length bytes))) (length bytes) (i - offset) 0 refl (omega arith)
+          ∙ get_or-drop (offset + length bytes) (grown contents (offset + length bytes)) (i - offset - length bytes) 0
+          ∙ ap (λ (k : ℕ). get_or (grown contents (offset + length bytes)) k 0) (omega arith)
+          ∙ zeros_behind contents (offset + length bytes - length contents) i
     ]
 
 -- a byte below the size to which contents are cut off or grown

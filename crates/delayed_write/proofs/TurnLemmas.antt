@@ -1,12 +1,12 @@
-use Rattle.std.proofs.Common.{◌≡◌, ◌+◌, ◌-◌, ◌<◌, ◌≤◌, ◌/◌, ◌%◌, ◌⊎◌, inl, inr, ℕ, zero, suc, Bool, true, false, nat_eq, nat_lt, List, Option, Some, None, length, get_or, refl, sym, ap, subst, ◌∙◌, arith, min}
-use Rattle.std.proofs.lemmas.Bool.{cases_Bool, cases_lt, cond-true, cond-false, false_from_ne_true, lt-ltb, le-ltb, true≢false, false≢true}
+use Rattle.std.proofs.Common.{◌≡◌, ◌+◌, ◌-◌, ◌<◌, ◌≤◌, ◌/◌, inl, inr, ℕ, Bool, true, false, nat_lt, List, Option, length, get_or, refl, sym, ap, subst, ◌∙◌, arith, min}
+use Rattle.std.proofs.lemmas.Bool.{cases_Bool, cases_lt, cond-true, cond-false, false_from_ne_true, lt-ltb, le-ltb, true≢false}
 use Rattle.std.proofs.lemmas.List.{get_or_past, take_all}
 use Rattle.cal_base.specs.declared.identity.Ino.{Ino}
 use Rattle.token_kind.specs.declared.hold.Hold.{Hold}
-use Rattle.token_kind.specs.Flush.{IsFlush, IsFlushed, are_rising, block_count, byte_by, flushed_byte, kept_byte, piece_at}
+use Rattle.token_kind.specs.Flush.{IsFlush, are_rising, block_count, byte_by, flushed_byte, kept_byte}
 use Rattle.token_kind.specs.Hold.{hold_number}
-use Rattle.delayed_write.specs.Bytes.{block_at, resized, written}
-use Rattle.delayed_write.specs.Marks.{is_marked, marked_by_shrink, marked_by_truncate, marked_by_write, marked_count, with_marks}
+use Rattle.delayed_write.specs.Bytes.{resized}
+use Rattle.delayed_write.specs.Marks.{is_marked, marked_by_shrink, marked_by_truncate, marked_by_write, marked_count}
 use Rattle.delayed_write.specs.Delayed.{Delayed, IsDelayed, Turns, after_truncate, after_write, clean, flush_of, pieces_below, pieces_of}
 use Rattle.delayed_write.proofs.MarkLemmas.{shrink_below, truncate_keeps, truncate_shrinks, unmarked, unmarked_by_shrink, unmarked_by_write}
 use Rattle.delayed_write.proofs.ByteLemmas.{byte_in_block, length-resized, resized_below, written_elsewhere}
@@ -20,9 +20,9 @@ pub record Keeps (kept : List ℕ) (d : Delayed) : Type 0 where
 flushed_marked : (kept : List ℕ) (d : Delayed) → length d.marks ≡ 64 → (i : ℕ) → is_marked d.marks (i / 4096) ≡ true → flushed_byte kept d.cut (pieces_of d) i ≡ get_or d.contents i 0
 flushed_marked kept d size i set =
     let index_within : i / 4096 < 64 = elim (cases_lt (i / 4096) 64) as (λ _. i / 4096 < 64) [
-        inl below ↦ below
+      | inl below ↦ below
       | inr above ↦ absurd (true≢false (sym set ∙ get_or_past d.marks (i / 4096) false (omega arith)))
-      ] in
+    ] in
     ap (λ (piece : Option (List ℕ)). byte_by piece kept d.cut i) (some_piece d.contents d.marks 64 (i / 4096) set index_within)
     ∙ byte_in_block d.contents i
 
@@ -32,18 +32,18 @@ flushed_unmarked kept d i unset = ap (λ (piece : Option (List ℕ)). byte_by pi
 pub keeps_from : (kept : List ℕ) (d : Delayed) → Turns kept d → Keeps kept d
 keeps_from kept d t = record {
   byte = λ i unset. elim (cases_lt i (length d.contents)) as (λ _. get_or d.contents i 0 ≡ kept_byte kept d.cut i) [
-    inl within ↦ t.flushed.bytes i within ∙ flushed_unmarked kept d i unset
-  | inr past ↦ get_or_past d.contents i 0 past ∙ sym (t.flushed.past i past) ∙ flushed_unmarked kept d i unset
+    | inl within ↦ t.flushed.bytes i within ∙ flushed_unmarked kept d i unset
+    | inr past ↦ get_or_past d.contents i 0 past ∙ sym (t.flushed.past i past) ∙ flushed_unmarked kept d i unset
   ];
 }
 
 pub turns_from : (kept : List ℕ) (d : Delayed) → length d.marks ≡ 64 → Keeps kept d → Turns kept d
 turns_from kept d size k =
     let all : (i : ℕ) → flushed_byte kept d.cut (pieces_of d) i ≡ get_or d.contents i 0 = λ i.
-        elim (cases_Bool (is_marked d.marks (i / 4096))) as (λ _. flushed_byte kept d.cut (pieces_of d) i ≡ get_or d.contents i 0) [
-          inl set ↦ flushed_marked kept d size i set
-        | inr unset ↦ flushed_unmarked kept d i unset ∙ sym (k.byte i unset)
-        ] in
+    elim (cases_Bool (is_marked d.marks (i / 4096))) as (λ _. flushed_byte kept d.cut (pieces_of d) i ≡ get_or d.contents i 0) [
+      | inl set ↦ flushed_marked kept d size i set
+      | inr unset ↦ flushed_unmarked kept d i unset ∙ sym (k.byte i unset)
+    ] in
     record {
       flushed = record {
         sized = refl;
@@ -59,10 +59,10 @@ write_turns kept d e offset bytes size size_new end new t =
     let k = keeps_from kept d t in
     turns_from kept e size_new (record {
       byte = λ i unset.
-        (let marks : is_marked (marked_by_write d.marks offset (length bytes)) (i / 4096) ≡ false = sym (ap (λ (f : Delayed). is_marked f.marks (i / 4096)) new) ∙ unset in
-        let apart = unmarked_by_write d.marks offset (length bytes) i size end marks in
-        ap (λ (f : Delayed). get_or f.contents i 0) new ∙ written_elsewhere d.contents offset bytes i apart.1 ∙ k.byte i apart.0
-        ∙ ap (λ (f : Delayed). kept_byte kept f.cut i) (sym new));
+          (let marks : is_marked (marked_by_write d.marks offset (length bytes)) (i / 4096) ≡ false = sym (ap (λ (f : Delayed). is_marked f.marks (i / 4096)) new) ∙ unset in
+          let apart = unmarked_by_write d.marks offset (length bytes) i size end marks in
+          ap (λ (f : Delayed). get_or f.contents i 0) new ∙ written_elsewhere d.contents offset bytes i apart.1 ∙ k.byte i apart.0
+          ∙ ap (λ (f : Delayed). kept_byte kept f.cut i) (sym new));
     })
 
 -- what is kept of a byte, by where the cut stands
@@ -76,8 +76,8 @@ kept_high kept cut i high = cond-false (nat_lt (i / 4096) (block_count cut)) (ge
 kept_before : (kept : List ℕ) (cut size i : ℕ) → i < size → kept_byte kept cut i ≡ kept_byte kept (min cut size) i
 kept_before kept cut size i before =
     elim (cases_lt (i / 4096) (block_count cut)) as (λ _. kept_byte kept cut i ≡ kept_byte kept (min cut size) i) [
-      inl low ↦ kept_low kept cut i low ∙ sym (kept_low kept (min cut size) i (omega arith))
-    | inr high ↦ kept_high kept cut i high ∙ sym (kept_high kept (min cut size) i (omega arith))
+      | inl low ↦ kept_low kept cut i low ∙ sym (kept_low kept (min cut size) i (omega arith))
+      | inr high ↦ kept_high kept cut i high ∙ sym (kept_high kept (min cut size) i (omega arith))
     ]
 
 -- a byte past the new end
@@ -87,24 +87,24 @@ resized_past contents size i past = (let n = length-resized contents size in get
 shrink_keeps : (kept : List ℕ) (d : Delayed) (size : ℕ) → length d.marks ≡ 64 → size ≤ 262144 → size < length d.contents → Keeps kept d → Keeps kept (after_truncate d size)
 shrink_keeps kept d size long within less k = record {
   byte = λ i unset.
-    (let there : is_marked (marked_by_shrink d.marks size) (i / 4096) ≡ false = ap (λ (ms : List Bool). is_marked ms (i / 4096)) (sym (truncate_shrinks d.marks (length d.contents) size less)) ∙ unset in
-    elim (unmarked_by_shrink d.marks size i long within there) as (λ _. get_or (resized d.contents size) i 0 ≡ kept_byte kept (min d.cut size) i) [
-      inl before ↦ resized_below d.contents size i before.0 ∙ k.byte i before.1 ∙ kept_before kept d.cut size i before.0
-    | inr past ↦ resized_past d.contents size i (omega arith) ∙ sym (kept_high kept (min d.cut size) i (omega arith))
-    ]);
+      (let there : is_marked (marked_by_shrink d.marks size) (i / 4096) ≡ false = ap (λ (ms : List Bool). is_marked ms (i / 4096)) (sym (truncate_shrinks d.marks (length d.contents) size less)) ∙ unset in
+      elim (unmarked_by_shrink d.marks size i long within there) as (λ _. get_or (resized d.contents size) i 0 ≡ kept_byte kept (min d.cut size) i) [
+        | inl before ↦ resized_below d.contents size i before.0 ∙ k.byte i before.1 ∙ kept_before kept d.cut size i before.0
+        | inr past ↦ resized_past d.contents size i (omega arith) ∙ sym (kept_high kept (min d.cut size) i (omega arith))
+      ]);
 }
 
 grow_keeps : (kept : List ℕ) (d : Delayed) (size : ℕ) → d.cut ≤ length d.contents → length d.contents ≤ size → Keeps kept d → Keeps kept (after_truncate d size)
 grow_keeps kept d size cut more k = record {
   byte = λ i unset.
-    (let there : is_marked d.marks (i / 4096) ≡ false = ap (λ (ms : List Bool). is_marked ms (i / 4096)) (sym (truncate_keeps d.marks (length d.contents) size more)) ∙ unset in
-    let same_cut : d.cut ≡ min d.cut size = omega arith in
-    let same_byte : get_or (resized d.contents size) i 0 ≡ get_or d.contents i 0 =
-        elim (cases_lt i size) as (λ _. get_or (resized d.contents size) i 0 ≡ get_or d.contents i 0) [
-          inl below ↦ resized_below d.contents size i below
+      (let there : is_marked d.marks (i / 4096) ≡ false = ap (λ (ms : List Bool). is_marked ms (i / 4096)) (sym (truncate_keeps d.marks (length d.contents) size more)) ∙ unset in
+      let same_cut : d.cut ≡ min d.cut size = omega arith in
+      let same_byte : get_or (resized d.contents size) i 0 ≡ get_or d.contents i 0 =
+      elim (cases_lt i size) as (λ _. get_or (resized d.contents size) i 0 ≡ get_or d.contents i 0) [
+        | inl below ↦ resized_below d.contents size i below
         | inr past ↦ resized_past d.contents size i past ∙ sym (get_or_past d.contents i 0 (omega arith))
-        ] in
-    same_byte ∙ k.byte i there ∙ ap (λ (n : ℕ). kept_byte kept n i) same_cut);
+      ] in
+      same_byte ∙ k.byte i there ∙ ap (λ (n : ℕ). kept_byte kept n i) same_cut);
 }
 
 -- a truncate keeps it
@@ -112,9 +112,9 @@ pub truncate_turns : (kept : List ℕ) (d e : Delayed) (size : ℕ) → IsDelaye
 truncate_turns kept d e size valid long within new t =
     let k = keeps_from kept d t in
     let after : Keeps kept (after_truncate d size) = elim (cases_lt size (length d.contents)) as (λ _. Keeps kept (after_truncate d size)) [
-        inl less ↦ shrink_keeps kept d size valid.marks within less k
+      | inl less ↦ shrink_keeps kept d size valid.marks within less k
       | inr more ↦ grow_keeps kept d size valid.cut more k
-      ] in
+    ] in
     turns_from kept e long (subst (λ (f : Delayed). Keeps kept f) (sym new) after)
 
 -- a truncated file is one
@@ -127,15 +127,15 @@ truncate_is d e size valid long within few new =
       marks = long;
       cut = omega arith;
       below = λ index set.
-        (let there : is_marked (marked_by_truncate d.marks (length d.contents) size) index ≡ true = ap (λ (f : Delayed). is_marked f.marks index) (sym new) ∙ set in
-        elim (cases_lt size (length d.contents)) as (λ _. index < block_count (length e.contents)) [
-          inl less ↦
-            (let low : index < block_count size = shrink_below d.marks size index valid.marks within (ap (λ (ms : List Bool). is_marked ms index) (sym (truncate_shrinks d.marks (length d.contents) size less)) ∙ there) in
-            omega arith)
-        | inr more ↦
-            (let low : index < block_count (length d.contents) = valid.below index (ap (λ (ms : List Bool). is_marked ms index) (sym (truncate_keeps d.marks (length d.contents) size more)) ∙ there) in
-            omega arith)
-        ]);
+          (let there : is_marked (marked_by_truncate d.marks (length d.contents) size) index ≡ true = ap (λ (f : Delayed). is_marked f.marks index) (sym new) ∙ set in
+          elim (cases_lt size (length d.contents)) as (λ _. index < block_count (length e.contents)) [
+            | inl less ↦
+                (let low : index < block_count size = shrink_below d.marks size index valid.marks within (ap (λ (ms : List Bool). is_marked ms index) (sym (truncate_shrinks d.marks (length d.contents) size less)) ∙ there) in
+                omega arith)
+            | inr more ↦
+                (let low : index < block_count (length d.contents) = valid.below index (ap (λ (ms : List Bool). is_marked ms index) (sym (truncate_keeps d.marks (length d.contents) size more)) ∙ there) in
+                omega arith)
+          ]);
       few = few;
       idle = λ idle. absurd (true≢false (sym (ap (λ (f : Delayed). f.unflushed) new) ∙ idle));
     }
@@ -159,11 +159,11 @@ pub clean_turns : (kept : List ℕ) (d : Delayed) → d ≡ clean kept → Turns
 clean_turns kept d same =
     turns_from kept d (ap (λ (f : Delayed). length f.marks) same) (record {
       byte = λ i unset.
-        (let cut : d.cut ≡ length kept = ap (λ (f : Delayed). f.cut) same in
-        ap (λ (f : Delayed). get_or f.contents i 0) same
-        ∙ elim (cases_lt (i / 4096) (block_count d.cut)) as (λ _. get_or kept i 0 ≡ kept_byte kept d.cut i) [
-            inl low ↦ sym (kept_low kept d.cut i low)
-          | inr high ↦ get_or_past kept i 0 (omega arith) ∙ sym (kept_high kept d.cut i high)
+          (let cut : d.cut ≡ length kept = ap (λ (f : Delayed). f.cut) same in
+          ap (λ (f : Delayed). get_or f.contents i 0) same
+          ∙ elim (cases_lt (i / 4096) (block_count d.cut)) as (λ _. get_or kept i 0 ≡ kept_byte kept d.cut i) [
+            | inl low ↦ sym (kept_low kept d.cut i low)
+            | inr high ↦ get_or_past kept i 0 (omega arith) ∙ sym (kept_high kept d.cut i high)
           ]);
     })
 
@@ -174,12 +174,12 @@ flush_is d ino leave_data leave_attr number valid counted inode data_left attr_l
     let end : ℕ = block_count (length d.contents) in
     let size = valid.size in
     let all : length (pieces_of d) ≡ marked_count d.marks
-        = piece_count d.contents d.marks 64 (omega (arith, valid.marks)) ∙ ap (λ (ms : List Bool). marked_count ms) (take_all 64 d.marks (omega (arith, valid.marks))) in
+    = piece_count d.contents d.marks 64 (omega (arith, valid.marks)) ∙ ap (λ (ms : List Bool). marked_count ms) (take_all 64 d.marks (omega (arith, valid.marks))) in
     let above : (index : ℕ) → block_count (length d.contents) ≤ index → is_marked d.marks index ≡ false
-        = λ index high. false_from_ne_true (is_marked d.marks index) (λ set. (let low = valid.below index set in omega arith)) in
+    = λ index high. false_from_ne_true (is_marked d.marks index) (λ set. (let low = valid.below index set in omega arith)) in
     let stops : pieces_of d ≡ pieces_below d.contents d.marks (block_count (length d.contents))
-        = ap (λ (n : ℕ). pieces_below d.contents d.marks n) (let e : 64 ≡ 64 - block_count (length d.contents) + block_count (length d.contents) = omega arith in e)
-        ∙ pieces_stop d.contents d.marks (block_count (length d.contents)) (64 - block_count (length d.contents)) above in
+    = ap (λ (n : ℕ). pieces_below d.contents d.marks n) (let e : 64 ≡ 64 - block_count (length d.contents) + block_count (length d.contents) = omega arith in e)
+    ∙ pieces_stop d.contents d.marks (block_count (length d.contents)) (64 - block_count (length d.contents)) above in
     record {
       number = counted;
       ino = inode;

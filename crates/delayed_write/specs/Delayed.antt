@@ -1,4 +1,4 @@
-use Rattle.std.specs.Prelude.{◌≡◌, ◌≤◌, ◌<◌, ◌+◌, ℕ, zero, suc, Bool, true, false, if◌then◌else◌, min, List, [], ◌∷◌, ◌++◌, length}
+use Rattle.std.specs.Prelude.{◌≡◌, ◌≤◌, ◌<◌, ℕ, zero, suc, Bool, true, false, if◌then◌else◌, min, List, [], ◌∷◌, ◌++◌, length}
 use Rattle.cal_base.specs.declared.identity.Ino.{Ino}
 use Rattle.token_kind.specs.declared.flush.Flush.{Flush}
 use Rattle.token_kind.specs.declared.hold.Hold.{Hold}

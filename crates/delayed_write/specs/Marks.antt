@@ -1,4 +1,4 @@
-use Rattle.std.specs.Prelude.{◌+◌, ◌-◌, ◌/◌, ℕ, Bool, true, false, nat_eq, nat_lt, if◌then◌else◌, List, ◌++◌, take, drop, replicate, slice_index_or, count_by}
+use Rattle.std.specs.Prelude.{◌≡◌, ◌≤◌, ◌<◌, ◌+◌, ◌-◌, ◌*◌, ◌/◌, ℕ, Bool, true, false, nat_eq, nat_lt, if◌then◌else◌, List, ◌++◌, take, drop, replicate, slice_index_or, count_by}
 use Rattle.token_kind.specs.Flush.{block_count}
 
 -- a block is marked; there are 64, one for each block of the largest file
@@ -31,3 +31,19 @@ marked_by_shrink marks size =
 -- a truncate that doesn't shrink marks nothing
 abbrev pub marked_by_truncate : List Bool → ℕ → ℕ → List Bool
 marked_by_truncate marks old size = if nat_lt size old then marked_by_shrink marks size else marks
+
+-- a byte of a write lies in this block
+pub record HoldsWritten (offset count index : ℕ) : Type 0 where
+  pub byte : ℕ
+  pub from : offset ≤ byte
+  pub before : byte < offset + count
+  pub block : byte / 4096 ≡ index
+
+-- a block begins before this end of a file
+abbrev pub BeginsBefore : ℕ → ℕ → Type 0
+BeginsBefore size index = index * 4096 < size
+
+-- an end of a file lies within this block, and not on a border
+pub record HoldsEnd (size index : ℕ) : Type 0 where
+  pub begins : index * 4096 < size
+  pub ends : size < (index + 1) * 4096

@@ -1,7 +1,7 @@
 ghost use Rattle.std.specs.Prelude.{◌≡◌, ◌≤◌, ◌+◌, IfOk, OnOk, OnErr, length, take, drop};
 ghost use Rattle.delayed_write.specs.Bytes.{block_at, grown, overlaid, read_at, resized, written};
 
-use cal_base::{Blob, Oom, Sector};
+use cal_base::{BLOCK_SIZE, Blob, Oom, Sector};
 use std::alloc::Global;
 
 /// Cuts the contents off, or grows them by zeros.
@@ -24,13 +24,13 @@ pub(crate) fn write(contents: &mut Vec<u8>, offset: usize, bytes: &[u8]) -> Resu
     Ok(())
 }
 
-/// Grows the contents by zeros, where they are shorter.
-fn grow(contents: &mut Vec<u8>, size: usize) -> Result<(), Oom>
-    ensures ok { OnOk result (contents.new.items ≡ grown contents.old.items size) }
+/// Grows the contents by zeros up to an end, where they are shorter.
+fn grow(contents: &mut Vec<u8>, end: usize) -> Result<(), Oom>
+    ensures ok { OnOk result (contents.new.items ≡ grown contents.old.items end) }
     ensures err { OnErr result (contents.new.items ≡ contents.old.items) }
 {
-    if contents.len() < size {
-        contents.resize(size, 0)?;
+    if contents.len() < end {
+        contents.resize(end, 0)?;
     }
     Ok(())
 }
@@ -44,12 +44,7 @@ fn overlay(contents: &mut [u8], offset: usize, bytes: &[u8])
 }
 
 /// The bytes from an offset on, at most so many.
-pub(crate) fn read(
-    alloc: Global,
-    contents: &[u8],
-    offset: usize,
-    count: usize,
-) -> Result<Blob, Oom>
+pub(crate) fn read(alloc: Global, contents: &[u8], offset: usize, count: usize) -> Result<Blob, Oom>
     ensures { IfOk result (λ bytes. bytes ≡ read_at contents.now offset count) }
 {
     let rest = from(contents, offset);
@@ -64,7 +59,7 @@ pub(crate) fn block(contents: &[u8], index: usize) -> Sector
     requires { index ≤ 64 }
     ensures { result ≡ block_at contents.now index }
 {
-    padded(first(from(contents, index * 4096), 4096))
+    padded(first(from(contents, index * BLOCK_SIZE), BLOCK_SIZE))
 }
 
 /// At most 4,096 bytes, and zeros behind them.
@@ -72,7 +67,7 @@ fn padded(bytes: &[u8]) -> Sector
     requires { length bytes.now ≤ 4096 }
     ensures { result ≡ resized bytes.now 4096 }
 {
-    let mut sector = [0; 4096];
+    let mut sector = [0; BLOCK_SIZE];
     overlay(&mut sector, 0, bytes);
     sector
 }

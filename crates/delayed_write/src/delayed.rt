@@ -5,10 +5,9 @@ ghost use Rattle.delayed_write.specs.Bytes.{read_at};
 ghost use Rattle.delayed_write.specs.Marks.{marked_by_truncate, marked_by_write, marked_count};
 ghost use Rattle.delayed_write.specs.Delayed.{Turns, after_truncate, after_write, clean, flush_of};
 
-use crate::bytes;
-use crate::marks;
 use crate::pieces::pieces;
-use cal_base::{Blob, Ino, Oom};
+use crate::{bytes, marks};
+use cal_base::{Blob, FILE_BLOCKS, Ino, Oom};
 use std::marker::Model;
 use token_kind::{Flush, Hold};
 
@@ -18,7 +17,7 @@ use token_kind::{Flush, Hold};
 #[derive(Drop)]
 pub struct Delayed {
     contents: Vec<u8>,
-    marks: [bool; 64],
+    marks: [bool; FILE_BLOCKS],
     cut: u32,
     unflushed: bool,
 }
@@ -44,7 +43,7 @@ impl Delayed {
         let cut = contents.len() as u32;
         Delayed {
             contents,
-            marks: [false; 64],
+            marks: [false; FILE_BLOCKS],
             cut,
             unflushed: false,
         }
@@ -116,9 +115,9 @@ impl Delayed {
         requires end { offset + len ≤ 262144 }
         ensures { result ≡ marked_count (marked_by_write self.now.marks offset len) }
     {
-        let mut marks = self.marks;
-        marks::mark_write(&mut marks, offset as usize, len as usize);
-        marks::count(&marks)
+        let mut after = self.marks;
+        marks::mark_write(&mut after, offset as usize, len as usize);
+        marks::count(&after)
     }
 
     /// How many blocks are marked after a truncate to a size.
@@ -126,9 +125,9 @@ impl Delayed {
         requires { size ≤ 262144 }
         ensures { result ≡ marked_count (marked_by_truncate self.now.marks (length self.now.contents) size) }
     {
-        let mut marks = self.marks;
-        marks::mark_truncate(&mut marks, self.contents.len(), size as usize);
-        marks::count(&marks)
+        let mut left = self.marks;
+        marks::mark_truncate(&mut left, self.contents.len(), size as usize);
+        marks::count(&left)
     }
 
     /// The flush with this number, from 1, of the file with this inode, below 512: exactly the marked
@@ -170,7 +169,7 @@ impl Delayed {
         ensures value { self.new ≡ clean self.old.contents }
         ensures turns { Turns self.new.contents self.new }
     {
-        self.marks = [false; 64];
+        self.marks = [false; FILE_BLOCKS];
         self.cut = self.contents.len() as u32;
         self.unflushed = false;
     }

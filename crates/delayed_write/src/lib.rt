@@ -5,9 +5,11 @@
 
 mod bytes;
 mod delayed;
+mod law;
 mod marks;
 mod pieces;
 #[cfg(test)]
 mod tests;
 
 pub use delayed::Delayed;
+pub use law::marks_are_exact;

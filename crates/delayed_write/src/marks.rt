@@ -2,8 +2,10 @@ ghost use Rattle.std.specs.Prelude.{◌≡◌, ◌≤◌, ◌+◌, length};
 ghost use Rattle.token_kind.specs.Flush.{block_count};
 ghost use Rattle.delayed_write.specs.Marks.{marked_by_shrink, marked_by_truncate, marked_by_write, marked_count, with_marks};
 
+use cal_base::{BLOCK_SIZE, FILE_BLOCKS};
+
 /// How many blocks are marked.
-pub(crate) fn count(marks: &[bool; 64]) -> u8
+pub(crate) fn count(marks: &[bool; FILE_BLOCKS]) -> u8
     ensures value { result ≡ marked_count marks.now }
     ensures limit { result ≤ 64 }
 {
@@ -11,17 +13,22 @@ pub(crate) fn count(marks: &[bool; 64]) -> u8
 }
 
 /// Marks the blocks in which the bytes of a write lie.
-pub(crate) fn mark_write(marks: &mut [bool; 64], offset: usize, count: usize)
+pub(crate) fn mark_write(marks: &mut [bool; FILE_BLOCKS], offset: usize, count: usize)
     requires { offset + count ≤ 262144 }
     ensures { marks.new ≡ marked_by_write marks.old offset count }
 {
     if count != 0 {
-        set_marks(marks, offset / 4096, block_count(offset + count), true);
+        set_marks(
+            marks,
+            offset / BLOCK_SIZE,
+            block_count(offset + count),
+            true,
+        );
     }
 }
 
 /// Marks what a truncate marks, and unmarks what it drops.
-pub(crate) fn mark_truncate(marks: &mut [bool; 64], old: usize, size: usize)
+pub(crate) fn mark_truncate(marks: &mut [bool; FILE_BLOCKS], old: usize, size: usize)
     requires { size ≤ 262144 }
     ensures { marks.new ≡ marked_by_truncate marks.old old size }
 {
@@ -31,17 +38,17 @@ pub(crate) fn mark_truncate(marks: &mut [bool; 64], old: usize, size: usize)
 }
 
 /// Unmarks the blocks past the new end, and marks the block that holds it.
-fn mark_shrink(marks: &mut [bool; 64], size: usize)
+fn mark_shrink(marks: &mut [bool; FILE_BLOCKS], size: usize)
     requires { size ≤ 262144 }
     ensures { marks.new ≡ marked_by_shrink marks.old size }
 {
     let end = block_count(size);
-    set_marks(marks, end, 64, false);
-    set_marks(marks, size / 4096, end, true);
+    set_marks(marks, end, FILE_BLOCKS, false);
+    set_marks(marks, size / BLOCK_SIZE, end, true);
 }
 
 /// Sets the marks from one block to below another.
-fn set_marks(marks: &mut [bool; 64], from: usize, to: usize, mark: bool)
+fn set_marks(marks: &mut [bool; FILE_BLOCKS], from: usize, to: usize, mark: bool)
     requires order { from ≤ to }
     requires within { to ≤ 64 }
     ensures { marks.new ≡ with_marks marks.old from to mark }
@@ -54,5 +61,5 @@ fn block_count(bytes: usize) -> usize
     requires { bytes ≤ 262144 }
     ensures { result ≡ block_count bytes }
 {
-    (bytes + 4095) / 4096
+    bytes.div_ceil(BLOCK_SIZE)
 }

@@ -2,7 +2,7 @@ ghost use Rattle.std.specs.Prelude.{◌≡◌, ◌<◌, IfOk, OnOk};
 ghost use Rattle.delayed_write.specs.Delayed.{pieces_below, with_piece};
 
 use crate::bytes::block;
-use cal_base::{Oom, Sector};
+use cal_base::{FILE_BLOCKS, Oom, Sector};
 use std::alloc::Global;
 use token_kind::PieceList;
 
@@ -10,13 +10,13 @@ use token_kind::PieceList;
 pub(crate) fn pieces(
     alloc: Global,
     contents: &[u8],
-    marks: &[bool; 64],
+    marks: &[bool; FILE_BLOCKS],
     count: u8,
 ) -> Result<PieceList, Oom>
     ensures { IfOk result (λ pieces. pieces ≡ pieces_below contents.now marks.now 64) }
 {
     let mut pieces = Vec::with_capacity(alloc, usize::from(count))?;
-    for index in 0..64 {
+    for index in 0..FILE_BLOCKS as u8 {
         put_piece(&mut pieces, contents, marks, index)?;
     }
     Ok(PieceList::from_vec(pieces))
@@ -26,7 +26,7 @@ pub(crate) fn pieces(
 fn put_piece(
     pieces: &mut Vec<(u8, Sector)>,
     contents: &[u8],
-    marks: &[bool; 64],
+    marks: &[bool; FILE_BLOCKS],
     index: u8,
 ) -> Result<(), Oom>
     requires { index < 64 }

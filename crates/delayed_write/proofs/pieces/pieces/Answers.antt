@@ -1,4 +1,4 @@
-use Rattle.std.proofs.Common.{rules, refl}
+use Rattle.std.proofs.Common.{rules}
 use Rattle.delayed_write.specs.Delayed.{pieces_below}
 use Rattle.delayed_write.proofs.PieceLemmas.{pieces_more}
 use Rattle.delayed_write.proofs.pieces.pieces.Goals as goal

@@ -1,4 +1,4 @@
-use Rattle.std.proofs.Common.{rules, arith}
+use Rattle.std.proofs.Common.{rules}
 use Rattle.delayed_write.proofs.TurnLemmas.{clean_is, clean_turns}
 use Rattle.delayed_write.proofs.delayed.Delayed.flushed.Goals as goal
 

@@ -1,4 +1,4 @@
-use Rattle.std.proofs.Common.{rules, arith, sym, subst}
+use Rattle.std.proofs.Common.{rules, subst}
 use Rattle.token_kind.specs.Flush.{IsFlush}
 use Rattle.token_kind.specs.declared.flush.Flush.{Flush}
 use Rattle.delayed_write.proofs.TurnLemmas.{flush_is}

@@ -1,4 +1,4 @@
-ghost use Rattle.std.specs.Prelude.{◌≡◌, ◌≤◌, ◌<◌, ◌+◌, ℕ, List, IfOk, OnOk, OnErr, length};
+ghost use Rattle.std.specs.Prelude.{◌≡◌, ◌≤◌, ◌<◌, ◌+◌, ℕ, List, false, IfOk, OnOk, OnErr, length};
 ghost use Rattle.token_kind.specs.Flush.{IsFlush, IsFlushed};
 ghost use Rattle.token_kind.specs.Hold.{hold_number};
 ghost use Rattle.delayed_write.specs.Bytes.{read_at};
@@ -49,16 +49,19 @@ impl Delayed {
         }
     }
 
-    /// The size of the file in bytes.
+    /// The size of the file in bytes, at most 262,144.
     pub fn size(&self) -> u32
-        ensures { result ≡ length self.now.contents }
+        ensures value { result ≡ length self.now.contents }
+        ensures limit { result ≤ 262144 }
     {
         self.contents.len() as u32
     }
 
-    /// Whether there was a write or a truncate since the last flush.
+    /// Whether there was a write or a truncate since the last flush. If not, nothing is marked and the
+    /// cut is the size.
     pub fn unflushed(&self) -> bool
-        ensures { result ≡ self.now.unflushed }
+        ensures value { result ≡ self.now.unflushed }
+        ensures idle { result ≡ false → self.now ≡ clean self.now.contents }
     {
         self.unflushed
     }

@@ -1,5 +1,5 @@
 -- A run that goes on, step by step.
-use Rattle.std.proofs.Common.{◌≡◌, ◌+◌, ◌≤◌, ℕ, List, [], ◌∷◌, ◌++◌, length, Option, Some, Result, Ok, Err, slice_get, refl, sym, ap, ◌∙◌, subst, arith}
+use Rattle.std.proofs.Common.{◌≡◌, ◌+◌, ◌≤◌, ℕ, true, List, [], ◌∷◌, ◌++◌, length, Option, Some, Result, Ok, Err, slice_get, refl, sym, ap, ◌∙◌, subst, arith}
 use Rattle.std.specs.Io.KnownBytes.{append_known}
 use Rattle.std.specs.Fmt.{decimal}
 use Rattle.std.specs.Prelude.{codes}
@@ -16,6 +16,10 @@ use Rattle.cluster_run.specs.Printing.{Held, Prints}
 use Rattle.cluster_run.specs.Running.{step_of, MadeStep, MakesStep, MakesLine, some_lines, all_lines, unbegun, behind, RunsLines}
 use Rattle.cluster_run.specs.declared.print.PrintError.{PrintError}
 use Rattle.cluster_run.specs.declared.print.PrintError.TheVariants.{WriteFault, OutOfMemory}
+use Rattle.script.specs.Served.{is_served_call}
+use Rattle.cluster_run.specs.Serving.{AreServedLines, IsCalm}
+use Rattle.cluster_run.proofs.Calm.{calm_empty, calm_after}
+use Rattle.cluster_run.proofs.ServedLines.{served_at, served_call}
 use Rattle.cluster_run.proofs.Printed.{append_known-append, prefix_last, rose_later}
 use Rattle.cluster_run.proofs.Steps.{AreSteps, carry_out}
 
@@ -25,12 +29,13 @@ pub record IsGoing (lines : List (ℕ × Line)) (count : ℕ) (before now : Held
   pub counted : length steps ≡ count
   pub are : AreSteps lines steps
   pub tree_is : tree ≡ tree_of (history steps)
+  pub calm : IsCalm tree
   pub printed : now.held ≡ append_known before.held (steps_text steps)
   pub later : before.faults ≤ now.faults
 
 -- the first line is printed, or not
 pub begun : (lines : List (ℕ × Line)) (before now : Held) (tree : Tree) → Prints before (line run_line) (Ok tt) now → tree ≡ empty_tree → IsGoing lines 0 before now tree
-begun lines before now tree prints is = record { steps = []; counted = refl; are = tt; tree_is = is; printed = prints.0; later = prints.1 }
+begun lines before now tree prints is = record { steps = []; counted = refl; are = tt; tree_is = is; calm = subst IsCalm (sym is) calm_empty; printed = prints.0; later = prints.1 }
 
 pub not_begun : (lines : List (ℕ × Line)) (before now : Held) (error : PrintError) → Prints before (line run_line) (Err error) now → RunsLines lines before (Err error) now
 not_begun lines before now WriteFault prints = record { text = steps_text []; begins = some_lines [] (carry_out lines [] tt); takes = prints.0; rose = prints.1 }
@@ -48,8 +53,8 @@ next_step lines count n before now after tree new client call result so at made 
       record {
         starts = subst (λ (line : Option (ℕ × Line)). Starts line (length so.steps + 1) step) (sym at_step) (refl, ap (λ (k : ℕ). k + 1) (sym so.counted), refl);
         own = record { new = made.served.new_ino; entry_is = refl };
-        next = subst (λ (t : Tree). IsNextCall t call made.served.reply made.served.new_ino) so.tree_is made.is.next;
-        served = subst (λ (t : Tree). IsServed t call made.served.reply made.served.new_ino) so.tree_is made.is.served_so;
+        next = subst (λ (t : Tree). IsNextCall t client call made.served.reply made.served.new_ino) so.tree_is made.is.next;
+        served = subst (λ (t : Tree). IsServed t client call made.served.reply made.served.new_ino) so.tree_is made.is.served_so;
       },
       so.are,
     )
@@ -60,14 +65,15 @@ step_text_at steps count step is = ap (λ (k : ℕ). step_text k step) (sym is)
 
 -- the next line is carried out and printed
 pub goes_on : (lines : List (ℕ × Line)) (count n : ℕ) (before now after : Held) (tree new : Tree) (client : ClientId) (call : Call) → IsGoing lines count before now tree
-    → slice_get lines count ≡ Some (n, Calls client call) → MakesStep tree count client call now (Ok tt) after new → IsGoing lines (count + 1) before after new
-goes_on lines count n before now after tree new client call so at made =
+    → slice_get lines count ≡ Some (n, Calls client call) → is_served_call call ≡ true → MakesStep tree count client call now (Ok tt) after new → IsGoing lines (count + 1) before after new
+goes_on lines count n before now after tree new client call so at served made =
     let step : Step = step_of client (count + 1) call made.served in
     record {
       steps = step ∷ so.steps;
       counted = omega (arith, so.counted);
       are = next_step lines count n before now after tree new client call (Ok tt) so at made;
-      tree_is = made.tree ∙ ap (λ (t : Tree). after_call t call made.served.reply made.served.new_ino) so.tree_is;
+      tree_is = made.tree ∙ ap (λ (t : Tree). after_call t client call made.served.reply made.served.new_ino) so.tree_is;
+      calm = subst IsCalm (sym made.tree) (calm_after tree client call made.served.reply made.served.new_ino served so.calm);
       printed = made.prints.0 ∙ ap (λ (known : Option (List ℕ)). append_known known (step_text count step)) so.printed
           ∙ append_known-append before.held (steps_text so.steps) (step_text count step)
           ∙ ap (λ (text : List ℕ). append_known before.held (steps_text so.steps ++ text)) (step_text_at so.steps count step so.counted);
@@ -91,13 +97,15 @@ stops lines count n before now after tree new client call WriteFault so at made 
 stops lines count n before now after tree new client call OutOfMemory so at made = behind so.steps (carry_out lines so.steps so.are) (made.0 ∙ so.printed)
 
 -- the same of the line as it stands
-pub line_goes_on : (lines : List (ℕ × Line)) (count : ℕ) (before now after : Held) (tree new : Tree) (line : ℕ × Line) → IsGoing lines count before now tree
+pub line_goes_on : (lines : List (ℕ × Line)) (count : ℕ) (before now after : Held) (tree new : Tree) (line : ℕ × Line) → AreServedLines lines → IsGoing lines count before now tree
     → slice_get lines count ≡ Some line → MakesLine tree count line now (Ok tt) after new → IsGoing lines (count + 1) before after new
-line_goes_on lines count before now after tree new (n, Calls client call) so at made = goes_on lines count n before now after tree new client call so at made
+line_goes_on lines count before now after tree new (n, Calls client call) are so at made = goes_on lines count n before now after tree new client call so at (served_call client call (served_at lines count (n, Calls client call) are at)).1 made
+line_goes_on lines count before now after tree new (n, _) are so at made = absurd made
 
 pub line_stops : (lines : List (ℕ × Line)) (count : ℕ) (before now after : Held) (tree new : Tree) (line : ℕ × Line) (error : PrintError) → IsGoing lines count before now tree
     → slice_get lines count ≡ Some line → MakesLine tree count line now (Err error) after new → RunsLines lines before (Err error) after
 line_stops lines count before now after tree new (n, Calls client call) error so at made = stops lines count n before now after tree new client call error so at made
+line_stops lines count before now after tree new (n, _) error so at made = absurd made
 
 -- memory ran out before the last line
 pub no_end : (lines : List (ℕ × Line)) (count : ℕ) (before now : Held) (tree : Tree) → IsGoing lines count before now tree → RunsLines lines before (Err OutOfMemory) now

@@ -40,6 +40,7 @@ are_own lines (step ∷ earlier) are = All-cons IsOwn step earlier are.0.own (ar
 started_number : (at : Option (ℕ × Line)) (number : ℕ) (step : Step) → Starts at number step → step.number ≡ number
 started_number None number step starts = absurd starts
 started_number (Some (n, Calls client call)) number step starts = starts.1
+started_number (Some (n, _)) number step starts = absurd starts
 
 numbers_within : (lines : List (ℕ × Line)) (steps : List Step) → AreSteps lines steps → All (λ step. step.number ≤ length steps) steps
 numbers_within lines [] are = λ (k : ℕ) (d : Step) (h : k < 0). absurd (omega arith)

@@ -26,8 +26,8 @@ step_of client number call served = record { client = client; number = number; c
 -- a call was served, and this came of printing its lines
 pub record MadeStep (old : Tree) (index : ℕ) (client : ClientId) (call : Call) (before : Held) (result : Result (Unit {0}) PrintError) (now : Held) (new : Tree) : Type 0 where
   pub served : Served
-  pub is : IsServedReply old call served
-  pub tree : new ≡ after_call old call served.reply served.new_ino
+  pub is : IsServedReply old client call served
+  pub tree : new ≡ after_call old client call served.reply served.new_ino
   pub prints : Prints before (step_text index (step_of client (index + 1) call served)) result now
 
 -- the step was made and printed; or the sink failed in its lines; or memory ran out before them
@@ -38,6 +38,7 @@ MakesStep old index client call before (Err OutOfMemory) now new = (now.held ≡
 
 abbrev pub MakesLine : Tree → ℕ → ℕ × Line → Held → Result (Unit {0}) PrintError → Held → Tree → Type 0
 MakesLine old index (number, Calls client call) before result now new = MakesStep old index client call before result now new
+MakesLine old index (number, _) before result now new = ⊥
 
 -- all lines were carried out and printed
 pub record RanAll (lines : List (ℕ × Line)) (before now : Held) : Type 0 where

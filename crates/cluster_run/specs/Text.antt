@@ -2,18 +2,17 @@
 use Rattle.std.specs.Prelude.{ℕ, List, [], ◌∷◌, ◌++◌, length, codes, Option, Some, None}
 use Rattle.std.specs.Fmt.{decimal}
 use Rattle.cal_base.specs.declared.identity.Ino.{Ino}
-use Rattle.tree_law.specs.Path.{path_text}
 use Rattle.tree_law.specs.declared.call.Call.{Call}
 use Rattle.tree_law.specs.declared.reply.Reply.{Reply}
-use Rattle.tree_law.specs.declared.reply.Reply.TheVariants.{Done, File, Dir, Names, Refused}
+use Rattle.tree_law.specs.declared.reply.Reply.TheVariants.{Done, Fd, Bytes, Count, File, Dir, Names, Refused}
 use Rattle.tree_law.specs.declared.reply.Why.{Why}
-use Rattle.tree_law.specs.declared.reply.Why.TheVariants.{Exist, NoEnt, NotDir, NoSpace, NoInode, DirFull}
+use Rattle.tree_law.specs.declared.reply.Why.TheVariants.{Exist, NoEnt, NotDir, IsDir, NotEmpty, Inval, Busy, MFile, BadF, FBig, NoSpace, NoInode, DirFull}
 use Rattle.tree_law.specs.declared.entry.Entry.{Entry}
-use Rattle.tree_law.specs.declared.entry.Entry.TheVariants.{Call as Called}
-use Rattle.script.specs.CallLine.{command_of, path_of}
+use Rattle.tree_law.specs.declared.entry.Entry.TheVariants.{Call as Called, Flush, Purge}
+use Rattle.script.specs.Spelling.{command_of, places_of, hex_text}
 use Rattle.script.specs.declared.bad_line.BadLine.{BadLine}
 use Rattle.script.specs.declared.bad_line.BadWhy.{BadWhy}
-use Rattle.script.specs.declared.bad_line.BadWhy.TheVariants.{Big, Many, Long, Byte, First, Unbuilt}
+use Rattle.script.specs.declared.bad_line.BadWhy.TheVariants.{Big, Many, Long, Byte, First, Word, Count as Counted, Number, Path, Hex, Unbuilt}
 use Rattle.cal_base.specs.declared.identity.ClientId.{ClientId}
 use Rattle.cluster_run.specs.Trace.{Step}
 
@@ -21,24 +20,40 @@ use Rattle.cluster_run.specs.Trace.{Step}
 abbrev pub line : List ℕ → List ℕ
 line text = text ++ 10 ∷ []
 
+-- each word after a space
+abbrev pub spaced : List (List ℕ) → List ℕ
+spaced [] = []
+spaced (word ∷ words) = 32 ∷ (word ++ spaced words)
+
+-- a call as a script spells it
 abbrev pub call_text : Call → List ℕ
-call_text call = command_of call ++ codes " " ++ path_text (path_of call)
+call_text call = command_of call ++ spaced (places_of call)
 
 abbrev pub why_text : Why → List ℕ
 why_text Exist = codes "EEXIST"
 why_text NoEnt = codes "ENOENT"
 why_text NotDir = codes "ENOTDIR"
+why_text IsDir = codes "EISDIR"
+why_text NotEmpty = codes "ENOTEMPTY"
+why_text Inval = codes "EINVAL"
+why_text Busy = codes "EBUSY"
+why_text MFile = codes "EMFILE"
+why_text BadF = codes "EBADF"
+why_text FBig = codes "EFBIG"
 why_text (NoSpace free needed) = codes "NOSPACE " ++ decimal free ++ codes " " ++ decimal needed
 why_text NoInode = codes "NOINODE"
 why_text DirFull = codes "DIRFULL"
 
--- each name after a space
-abbrev pub spaced : List (List ℕ) → List ℕ
-spaced [] = []
-spaced (name ∷ names) = 32 ∷ (name ++ spaced names)
+-- the count of bytes, and then the bytes in hexadecimal
+abbrev pub bytes_text : List ℕ → List ℕ
+bytes_text [] = codes "ok 0"
+bytes_text (byte ∷ bytes) = codes "ok " ++ decimal (length (byte ∷ bytes)) ++ codes " " ++ hex_text (byte ∷ bytes)
 
 abbrev pub reply_text : Reply → List ℕ
 reply_text Done = codes "ok"
+reply_text (Fd fd) = codes "ok " ++ decimal fd
+reply_text (Bytes bytes) = bytes_text bytes
+reply_text (Count count) = codes "ok " ++ decimal count
 reply_text (File size) = codes "ok file " ++ decimal size
 reply_text Dir = codes "ok dir"
 reply_text (Names names) = codes "ok " ++ decimal (length names) ++ spaced names
@@ -60,6 +75,8 @@ call_entry_line client number reply new = entry_front client number new ++ codes
 
 abbrev pub entry_line : Entry → List ℕ
 entry_line (Called client number call reply new) = call_entry_line client number reply new
+entry_line (Flush client ino) = codes "entry flush c" ++ decimal client.0 ++ codes " " ++ decimal ino.0
+entry_line (Purge client) = codes "entry purge c" ++ decimal client.0
 
 abbrev pub answer_line : ClientId → ℕ → Reply → List ℕ
 answer_line client number reply = codes "ans c" ++ decimal client.0 ++ codes " " ++ decimal number ++ codes " " ++ reply_text reply
@@ -89,6 +106,11 @@ bad_why_text Many = codes "Many"
 bad_why_text Long = codes "Long"
 bad_why_text Byte = codes "Byte"
 bad_why_text First = codes "First"
+bad_why_text Word = codes "Word"
+bad_why_text Counted = codes "Count"
+bad_why_text Number = codes "Number"
+bad_why_text Path = codes "Path"
+bad_why_text Hex = codes "Hex"
 bad_why_text Unbuilt = codes "Unbuilt"
 
 abbrev pub bad_line : BadLine → List ℕ

@@ -1,5 +1,5 @@
 -- What a run did: its steps, newest first, and what is promised of them.
-use Rattle.std.specs.Prelude.{◌≡◌, ◌⊎◌, ◌+◌, ◌&&◌, ◌==◌, ℕ, Bool, List, [], ◌∷◌, length, All, slice_get, Option, Some, None, IfSome, ⊤}
+use Rattle.std.specs.Prelude.{◌≡◌, ◌⊎◌, ◌+◌, ◌&&◌, ◌==◌, ℕ, Bool, false, List, [], ◌∷◌, length, All, slice_get, Option, Some, None, IfSome, ⊤}
 use Rattle.std.specs.List.{filter}
 use Rattle.cal_base.specs.declared.identity.ClientId.{ClientId}
 use Rattle.cal_base.specs.declared.identity.Ino.{Ino}
@@ -12,7 +12,7 @@ use Rattle.tree_law.specs.declared.reply.Reply.TheVariants.{Refused}
 use Rattle.tree_law.specs.declared.reply.Why.{Why}
 use Rattle.tree_law.specs.declared.reply.Why.TheVariants.{NoInode, NoSpace}
 use Rattle.tree_law.specs.declared.entry.Entry.{Entry}
-use Rattle.tree_law.specs.declared.entry.Entry.TheVariants.{Call as Called}
+use Rattle.tree_law.specs.declared.entry.Entry.TheVariants.{Call as Called, Flush, Purge}
 use Rattle.script.specs.declared.script.Line.{Line}
 use Rattle.script.specs.declared.script.Line.TheVariants.{Call as Calls}
 
@@ -33,6 +33,7 @@ history (step ∷ earlier) = step.entry ∷ history earlier
 abbrev pub Starts : Option (ℕ × Line) → ℕ → Step → Type 0
 Starts None number step = ⊥
 Starts (Some (line, Calls client call)) number step = (step.client ≡ client) × (step.number ≡ number) × (step.call ≡ call)
+Starts (Some (line, _)) number step = ⊥
 
 -- each step starts the call of the next line of the script
 abbrev pub Follows : List (ℕ × Line) → List Step → Type 0
@@ -47,6 +48,8 @@ pub record IsOwn (step : Step) : Type 0 where
 -- whether an entry is of this call
 abbrev pub is_entry_of : ClientId → ℕ → Entry → Bool
 is_entry_of of number (Called client n call reply new) = (client.0 == of.0) && (n == number)
+is_entry_of of number (Flush client ino) = false
+is_entry_of of number (Purge client) = false
 
 -- the entries of a call
 abbrev pub entries_of : ClientId → ℕ → List Entry → List Entry
@@ -74,13 +77,15 @@ pub record IsWanting (tree : Tree) (call : Call) : Type 0 where
 
 -- NOINODE is answered exactly where a name would be made and all inodes are in use, else the tree's own
 -- answer, which is never want of an inode or a block; a new inode is the least free one
-pub record IsServed (tree : Tree) (call : Call) (reply : Reply) (new : Option Ino) : Type 0 where
+pub record IsServed (tree : Tree) (client : ClientId) (call : Call) (reply : Reply) (new : Option Ino) : Type 0 where
   pub wanting : IsWanting tree call → reply ≡ Refused NoInode
-  pub answered : (reply ≡ Refused NoInode × IsWanting tree call) ⊎ (reply ≡ answer tree call × IsPlainReply reply)
+  pub answered : (reply ≡ Refused NoInode × IsWanting tree call) ⊎ (reply ≡ answer tree client call × IsPlainReply reply)
   pub least : IfSome new (IsLeastFree tree)
 
 abbrev pub IsServedEntry : Tree → Entry → Type 0
-IsServedEntry tree (Called client number call reply new) = IsServed tree call reply new
+IsServedEntry tree (Called client number call reply new) = IsServed tree client call reply new
+IsServedEntry tree (Flush client ino) = ⊥
+IsServedEntry tree (Purge client) = ⊥
 
 -- each entry is served so by the tree before it
 abbrev pub AreServed : List Entry → Type 0

@@ -1,5 +1,7 @@
-ghost use Rattle.std.specs.Prelude.{◌+◌, ◌^◌, ◌<◌};
+ghost use Rattle.std.specs.Prelude.{◌≡◌, ◌+◌, ◌^◌, ◌<◌, true};
+ghost use Rattle.script.specs.Served.{is_served_call, is_served_line};
 ghost use Rattle.cluster_run.specs.Printing.{Held};
+ghost use Rattle.cluster_run.specs.Serving.{AreServedLines, IsCalm};
 ghost use Rattle.cluster_run.specs.Running.{MakesStep, MakesLine, RunsLines};
 
 use crate::print::{PrintError, print};
@@ -19,10 +21,13 @@ fn run_step<K: Sink>(
     client: ClientId,
     call: &Call,
 ) -> Result<(), PrintError>
-    requires { index + 1 < 2 ^ 64 }
+    requires index { index + 1 < 2 ^ 64 }
+    requires calm { IsCalm tree.old }
+    requires client { client.0 ≡ 0 }
+    requires call { is_served_call call.now ≡ true }
     ensures { MakesStep tree.old index client call.now (record { held = K.held sink.old; faults = K.fault_count sink.old }) result (record { held = K.held sink.new; faults = K.fault_count sink.new }) tree.new }
 {
-    let served = serve(alloc, tree, call)?;
+    let served = serve(alloc, tree, client, call)?;
     let lines = step_lines(alloc, index, client, index + 1, call, &served)?;
     print(sink, lines.as_slice())
 }
@@ -35,21 +40,36 @@ fn run_line<K: Sink>(
     index: u64,
     line: &(u32, Line),
 ) -> Result<(), PrintError>
-    requires { index + 1 < 2 ^ 64 }
+    requires index { index + 1 < 2 ^ 64 }
+    requires calm { IsCalm tree.old }
+    requires served { is_served_line line.now.1 ≡ true }
     ensures { MakesLine tree.old index line.now (record { held = K.held sink.old; faults = K.fault_count sink.old }) result (record { held = K.held sink.new; faults = K.fault_count sink.new }) tree.new }
 {
     match &line.1 {
         Line::Call(client, call) => run_step(alloc, sink, tree, index, *client, call),
+        Line::Deliver(_) => unreachable!(),
+        Line::Drop(_) => unreachable!(),
+        Line::Pass(_, _) => unreachable!(),
+        Line::Cut(_, _) => unreachable!(),
+        Line::Mend(_, _) => unreachable!(),
+        Line::Tick(_) => unreachable!(),
+        Line::Crash(_) => unreachable!(),
+        Line::Gone(_) => unreachable!(),
+        Line::View(_) => unreachable!(),
+        Line::WriteBack(_, _) => unreachable!(),
+        Line::Stop { .. } => unreachable!(),
+        Line::Settle => unreachable!(),
     }
 }
 
-/// Carries out the lines of a script on a file tree that has the root alone, and prints the text of the
+/// Carries out the served lines of a script on a file tree that has the root alone, and prints the text of the
 /// run: the first line, those of each step as it is made, and the last.
 pub(crate) fn run_lines<K: Sink>(
     alloc: Global,
     sink: &mut K,
     lines: &[(u32, Line)],
 ) -> Result<(), PrintError>
+    requires { AreServedLines lines.now }
     ensures { RunsLines lines.now (record { held = K.held sink.old; faults = K.fault_count sink.old }) result (record { held = K.held sink.new; faults = K.fault_count sink.new }) }
 {
     if let Err(error) = print(sink, b"run clients 1 window 4\n") {

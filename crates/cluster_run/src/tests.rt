@@ -14,6 +14,10 @@ step 3 c0 start 4 readdir /\nentry call c0 4 new - reply ok 1 d\nans c0 4 ok 1 d
 step 4 c0 start 5 stat /x\nentry call c0 5 new - reply ENOENT\nans c0 5 ENOENT\n\
 end 5\n";
 
+const STAT: &str = "run clients 1 window 4\n\
+step 0 c0 start 1 stat /x\nentry call c0 1 new - reply ENOENT\nans c0 1 ENOENT\n\
+end 1\n";
+
 /// How a run ends, and what it printed.
 #[derive(Drop)]
 struct Outcome {
@@ -45,6 +49,20 @@ fn runs_end_as_their_scripts_and_words_say(rt: HostRuntime) -> Result<(), Fail> 
         (run, "clients 1", 0, "run clients 1 window 4\nend 0\n"),
         (run, "", 3, "BadScript 1 First\n"),
         (run, "clients 1\nc0 open /a r\n", 3, "BadScript 2 Unbuilt\n"),
+        (run, "clients 1\n# open\n\nc0 stat /x", 0, STAT),
+        (run, "clients 1\r\nc0 stat /x\n", 3, "BadScript 1 Byte\n"),
+        (run, "clients 1\n\0\n", 3, "BadScript 2 Byte\n"),
+        (run, "clients 17\n", 3, "BadScript 1 First\n"),
+        (run, "clients 1\nc0 opens /a r\n", 3, "BadScript 2 Word\n"),
+        (
+            run,
+            "clients 1\nc0 stat /a\nc0 read 0 0\n",
+            3,
+            "BadScript 3 Count\n",
+        ),
+        (run, "clients 1\nc0 close 01\n", 3, "BadScript 2 Number\n"),
+        (run, "clients 1\nc0 stat a\n", 3, "BadScript 2 Path\n"),
+        (run, "clients 1\nc0 write 0 0 A0\n", 3, "BadScript 2 Hex\n"),
         (["run", "now"].as_slice(), CALLS, 2, "Usage\n"),
         (["-h"].as_slice(), CALLS, 2, "Usage\n"),
         ([].as_slice(), CALLS, 2, "Usage\n"),
@@ -60,6 +78,42 @@ fn runs_end_as_their_scripts_and_words_say(rt: HostRuntime) -> Result<(), Fail> 
         assert_eq!(rt; ended.status.code(), code, "{script}");
         assert!(rt; ended.printed.bytes() == text.as_bytes(), "{script}");
     }
+    Ok(())
+}
+
+/// Whether a script ends so: one that begins with a text and is filled with a byte up to a length.
+fn ends_so(
+    alloc: Global,
+    front: &[u8],
+    byte: u8,
+    length: usize,
+    code: u8,
+    text: &[u8],
+) -> Result<bool, Fail> {
+    let mut script = front.to_vec(alloc)?;
+    script.resize(length, byte)?;
+    let ended = run_in_memory(
+        alloc,
+        ["run"].as_slice(),
+        script.as_slice(),
+        Vec::new(alloc),
+        Vec::new(alloc),
+    )?;
+    Ok(ended.status.code() == code && ended.printed.bytes() == text)
+}
+
+#[test]
+fn a_script_is_taken_up_to_its_limits(rt: HostRuntime) -> Result<(), Fail> {
+    let alloc = rt.alloc();
+    let first = b"clients 1\n".as_slice();
+    let comment = b"clients 1\n#".as_slice();
+    let none = b"run clients 1 window 4\nend 0\n".as_slice();
+    let many = b"BadScript 65537 Many\n".as_slice();
+    let long = b"BadScript 2 Long\n".as_slice();
+    assert!(rt; ends_so(alloc, first, b'\n', 65_545, 0, none)?);
+    assert!(rt; ends_so(alloc, first, b'\n', 65_546, 3, many)?);
+    assert!(rt; ends_so(alloc, comment, b'x', 70_010, 0, none)?);
+    assert!(rt; ends_so(alloc, comment, b'x', 70_011, 3, long)?);
     Ok(())
 }
 

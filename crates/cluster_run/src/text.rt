@@ -1,15 +1,15 @@
-ghost use Rattle.std.specs.Prelude.{◌≡◌, ◌++◌, codes, IfOk, OnOk};
+ghost use Rattle.std.specs.Prelude.{◌≡◌, ◌<◌, ◌++◌, ◌∷◌, [], codes, IfOk, OnOk};
 ghost use Rattle.std.specs.Fmt.{decimal};
 ghost use Rattle.tree_law.specs.Path.{path_text, slashed};
 ghost use Rattle.tree_law.specs.declared.entry.Entry.TheVariants.{Call as Called};
-ghost use Rattle.script.specs.CallLine.{command_of};
-ghost use Rattle.cluster_run.specs.Text.{line, call_text, why_text, spaced, reply_text, new_text, step_line, entry_front, call_entry_line, answer_line, step_text, bad_why_text, bad_line};
+ghost use Rattle.script.specs.Spelling.{command_of, places_of, mode_word, hex_digit, hex_text};
+ghost use Rattle.cluster_run.specs.Text.{line, call_text, why_text, spaced, bytes_text, reply_text, new_text, step_line, entry_front, call_entry_line, answer_line, step_text, bad_why_text, bad_line};
 
 use crate::serve::Served;
 use cal_base::{Blob, ClientId, Ino, NameList, Oom};
 use script::{BadLine, BadWhy};
 use std::alloc::Global;
-use tree_law::{Call, Path, Reply, Why};
+use tree_law::{Call, Mode, Path, Reply, Why};
 
 /// Puts bytes behind a text.
 fn put_bytes(text: &mut Vec<u8>, bytes: &[u8]) -> Result<(), Oom>
@@ -63,6 +63,117 @@ fn put_path(text: &mut Vec<u8>, path: &Path) -> Result<(), Oom>
     put_slashed(text, path.names())
 }
 
+/// Puts a path behind a space.
+fn put_path_word(text: &mut Vec<u8>, path: &Path) -> Result<(), Oom>
+    ensures { OnOk result (text.new.items ≡ text.old.items ++ spaced (path_text path.now ∷ [])) }
+{
+    put(text, " ")?;
+    put_path(text, path)
+}
+
+/// Puts a number behind a space.
+fn put_number_word(alloc: Global, text: &mut Vec<u8>, number: u64) -> Result<(), Oom>
+    ensures { OnOk result (text.new.items ≡ text.old.items ++ spaced (decimal number ∷ [])) }
+{
+    put(text, " ")?;
+    put_number(alloc, text, number)
+}
+
+/// A hexadecimal digit.
+fn hex_digit(nibble: u8) -> u8
+    requires { nibble < 16 }
+    ensures { result ≡ hex_digit nibble }
+{
+    if nibble < 10 {
+        48 + nibble
+    } else {
+        87 + nibble
+    }
+}
+
+/// Puts bytes in hexadecimal, two digits each.
+fn put_hex(text: &mut Vec<u8>, bytes: &[u8]) -> Result<(), Oom>
+    ensures { OnOk result (text.new.items ≡ text.old.items ++ hex_text bytes.now) }
+{
+    for byte in bytes {
+        text.push(hex_digit(*byte / 16))?;
+        text.push(hex_digit(*byte % 16))?;
+    }
+    Ok(())
+}
+
+/// Puts bytes in hexadecimal behind a space.
+fn put_hex_word(text: &mut Vec<u8>, bytes: &[u8]) -> Result<(), Oom>
+    ensures { OnOk result (text.new.items ≡ text.old.items ++ spaced (hex_text bytes.now ∷ [])) }
+{
+    put(text, " ")?;
+    put_hex(text, bytes)
+}
+
+/// The word of a mode.
+fn mode_word(mode: Mode) -> &'static str
+    ensures { result.now ≡ mode_word mode }
+{
+    match mode {
+        Mode::R => "r",
+        Mode::W => "w",
+        Mode::Rw => "rw",
+    }
+}
+
+/// Puts two paths, each behind a space.
+fn put_two_paths(text: &mut Vec<u8>, from: &Path, to: &Path) -> Result<(), Oom>
+    ensures { OnOk result (text.new.items ≡ text.old.items ++ spaced (path_text from.now ∷ path_text to.now ∷ [])) }
+{
+    put_path_word(text, from)?;
+    put_path_word(text, to)
+}
+
+/// Puts a path and a mode, each behind a space.
+fn put_path_and_mode(text: &mut Vec<u8>, path: &Path, mode: Mode) -> Result<(), Oom>
+    ensures { OnOk result (text.new.items ≡ text.old.items ++ spaced (path_text path.now ∷ mode_word mode ∷ [])) }
+{
+    put_path_word(text, path)?;
+    put(text, " ")?;
+    put(text, mode_word(mode))
+}
+
+/// Puts a descriptor and a number, each behind a space.
+fn put_two_numbers(alloc: Global, text: &mut Vec<u8>, fd: u8, number: u64) -> Result<(), Oom>
+    ensures { OnOk result (text.new.items ≡ text.old.items ++ spaced (decimal fd ∷ decimal number ∷ [])) }
+{
+    put_number_word(alloc, text, u64::from(fd))?;
+    put_number_word(alloc, text, number)
+}
+
+/// Puts a descriptor, an offset and a count, each behind a space.
+fn put_read_words(
+    alloc: Global,
+    text: &mut Vec<u8>,
+    fd: u8,
+    offset: u64,
+    len: u32,
+) -> Result<(), Oom>
+    ensures { OnOk result (text.new.items ≡ text.old.items ++ spaced (decimal fd ∷ decimal offset ∷ decimal len ∷ [])) }
+{
+    put_two_numbers(alloc, text, fd, offset)?;
+    put_number_word(alloc, text, u64::from(len))
+}
+
+/// Puts a descriptor, an offset and bytes, each behind a space.
+fn put_write_words(
+    alloc: Global,
+    text: &mut Vec<u8>,
+    fd: u8,
+    offset: u64,
+    bytes: &[u8],
+) -> Result<(), Oom>
+    ensures { OnOk result (text.new.items ≡ text.old.items ++ spaced (decimal fd ∷ decimal offset ∷ hex_text bytes.now ∷ [])) }
+{
+    put_two_numbers(alloc, text, fd, offset)?;
+    put_hex_word(text, bytes)
+}
+
 /// The word of a call.
 fn command(call: &Call) -> &'static str
     ensures { result.now ≡ command_of call.now }
@@ -70,34 +181,72 @@ fn command(call: &Call) -> &'static str
     match call {
         Call::Create(_) => "create",
         Call::Mkdir(_) => "mkdir",
+        Call::Unlink(_) => "unlink",
+        Call::Rmdir(_) => "rmdir",
+        Call::Rename(_, _) => "rename",
+        Call::Open(_, _) => "open",
+        Call::Close(_) => "close",
+        Call::Read { .. } => "read",
+        Call::Write { .. } => "write",
+        Call::Truncate { .. } => "truncate",
         Call::Stat(_) => "stat",
         Call::Readdir(_) => "readdir",
+        Call::Fsync(_) => "fsync",
+    }
+}
+
+/// Puts the words of a call's places, each behind a space.
+fn put_places(alloc: Global, text: &mut Vec<u8>, call: &Call) -> Result<(), Oom>
+    ensures { OnOk result (text.new.items ≡ text.old.items ++ spaced (places_of call.now)) }
+{
+    match call {
+        Call::Create(path) => put_path_word(text, path),
+        Call::Mkdir(path) => put_path_word(text, path),
+        Call::Unlink(path) => put_path_word(text, path),
+        Call::Rmdir(path) => put_path_word(text, path),
+        Call::Rename(from, to) => put_two_paths(text, from, to),
+        Call::Open(path, mode) => put_path_and_mode(text, path, *mode),
+        Call::Close(fd) => put_number_word(alloc, text, u64::from(*fd)),
+        Call::Read { fd, offset, len } => put_read_words(alloc, text, *fd, *offset, *len),
+        Call::Write { fd, offset, bytes } => {
+            put_write_words(alloc, text, *fd, *offset, bytes.as_slice())
+        }
+        Call::Truncate { fd, size } => put_two_numbers(alloc, text, *fd, *size),
+        Call::Stat(path) => put_path_word(text, path),
+        Call::Readdir(path) => put_path_word(text, path),
+        Call::Fsync(fd) => put_number_word(alloc, text, u64::from(*fd)),
     }
 }
 
 /// Puts a call as a script spells it.
-fn put_call(text: &mut Vec<u8>, call: &Call) -> Result<(), Oom>
+fn put_call(alloc: Global, text: &mut Vec<u8>, call: &Call) -> Result<(), Oom>
     ensures { OnOk result (text.new.items ≡ text.old.items ++ call_text call.now) }
 {
     put(text, command(call))?;
-    put(text, " ")?;
-    match call {
-        Call::Create(path) => put_path(text, path),
-        Call::Mkdir(path) => put_path(text, path),
-        Call::Stat(path) => put_path(text, path),
-        Call::Readdir(path) => put_path(text, path),
-    }
+    put_places(alloc, text, call)
 }
 
-/// Puts each name behind a space.
-fn put_spaced(text: &mut Vec<u8>, names: &[Blob]) -> Result<(), Oom>
-    ensures { OnOk result (text.new.items ≡ text.old.items ++ spaced names.now) }
+/// Puts each word behind a space.
+fn put_spaced(text: &mut Vec<u8>, words: &[Blob]) -> Result<(), Oom>
+    ensures { OnOk result (text.new.items ≡ text.old.items ++ spaced words.now) }
 {
-    for name in names {
+    for word in words {
         put(text, " ")?;
-        put_bytes(text, name.as_slice())?;
+        put_bytes(text, word.as_slice())?;
     }
     Ok(())
+}
+
+/// Puts bytes that were read, behind their count.
+fn put_read_bytes(alloc: Global, text: &mut Vec<u8>, bytes: &[u8]) -> Result<(), Oom>
+    ensures { OnOk result (text.new.items ≡ text.old.items ++ bytes_text bytes.now) }
+{
+    if bytes.is_empty() {
+        return put(text, "ok 0");
+    }
+    put_field(alloc, text, "ok ", bytes.len() as u64)?;
+    put(text, " ")?;
+    put_hex(text, bytes)
 }
 
 /// Puts the names of a directory behind their count.
@@ -116,6 +265,13 @@ fn put_why(alloc: Global, text: &mut Vec<u8>, why: Why) -> Result<(), Oom>
         Why::Exist => put(text, "EEXIST"),
         Why::NoEnt => put(text, "ENOENT"),
         Why::NotDir => put(text, "ENOTDIR"),
+        Why::IsDir => put(text, "EISDIR"),
+        Why::NotEmpty => put(text, "ENOTEMPTY"),
+        Why::Inval => put(text, "EINVAL"),
+        Why::Busy => put(text, "EBUSY"),
+        Why::MFile => put(text, "EMFILE"),
+        Why::BadF => put(text, "EBADF"),
+        Why::FBig => put(text, "EFBIG"),
         Why::NoSpace { free, needed } => {
             put_field(alloc, text, "NOSPACE ", u64::from(free))?;
             put_field(alloc, text, " ", u64::from(needed))
@@ -131,6 +287,9 @@ fn put_reply(alloc: Global, text: &mut Vec<u8>, reply: &Reply) -> Result<(), Oom
 {
     match reply {
         Reply::Done => put(text, "ok"),
+        Reply::Fd(fd) => put_field(alloc, text, "ok ", u64::from(*fd)),
+        Reply::Bytes(bytes) => put_read_bytes(alloc, text, bytes.as_slice()),
+        Reply::Count(count) => put_field(alloc, text, "ok ", u64::from(*count)),
         Reply::File(size) => put_field(alloc, text, "ok file ", u64::from(*size)),
         Reply::Dir => put(text, "ok dir"),
         Reply::Names(names) => put_names(alloc, text, names),
@@ -163,7 +322,7 @@ fn put_step_line(
     put_field(alloc, text, " c", u64::from(client.0))?;
     put_field(alloc, text, " start ", number)?;
     put(text, " ")?;
-    put_call(text, call)?;
+    put_call(alloc, text, call)?;
     put(text, "\n")
 }
 
@@ -255,6 +414,11 @@ fn bad_why(why: BadWhy) -> &'static str
         BadWhy::Long => "Long",
         BadWhy::Byte => "Byte",
         BadWhy::First => "First",
+        BadWhy::Word => "Word",
+        BadWhy::Count => "Count",
+        BadWhy::Number => "Number",
+        BadWhy::Path => "Path",
+        BadWhy::Hex => "Hex",
         BadWhy::Unbuilt => "Unbuilt",
     }
 }

@@ -1,2 +1,10 @@
 pub mod LinesRead
+pub mod PathWords
+pub mod ReadLines
+pub mod ReadPlaces
+pub mod ServedLines
+pub mod Spelled
+pub mod SpelledScript
+pub mod Values
 pub mod WordParts
+pub mod Written

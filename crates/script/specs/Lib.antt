@@ -1,6 +1,11 @@
+pub mod Numbers
+pub mod Places
 pub mod CallLine
+pub mod CommandLine
 pub mod Lines
-pub mod Reading
+pub mod Outcome
 pub mod Reasons
 pub mod Script
+pub mod Served
+pub mod Spelling
 pub mod Words

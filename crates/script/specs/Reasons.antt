@@ -1,78 +1,46 @@
-use Rattle.std.specs.Prelude.{◌≡◌, ◌≢◌, ◌⊎◌, ◌<◌, ◌≤◌, ℕ, List, [], ◌∷◌, length, All, codes, ⊤}
-use Rattle.tree_law.specs.declared.call.Call.{Call}
-use Rattle.script.specs.Words.{words}
+-- What a numbered line says, or the first reason why it is bad.
+use Rattle.std.specs.Prelude.{◌≡◌, ◌==◌, ◌&&◌, ℕ, Bool, false, List, [], ◌∷◌, length, nat_lt, nat_le, if◌then◌else◌, Result, Ok, Err}
+use Rattle.std.specs.List.{list_all}
+use Rattle.script.specs.CommandLine.{first_said, words_said}
 use Rattle.script.specs.Lines.{NumberedLine}
-use Rattle.script.specs.CallLine.{SpellsCall}
+use Rattle.script.specs.Outcome.{then_read}
+use Rattle.script.specs.Served.{served}
+use Rattle.script.specs.Words.{words}
 use Rattle.script.specs.declared.bad_line.BadWhy.{BadWhy}
-use Rattle.script.specs.declared.bad_line.BadWhy.TheVariants.{Big, Many, Long, Byte, First, Unbuilt}
+use Rattle.script.specs.declared.bad_line.BadWhy.TheVariants.{Big, Many, Long, Byte}
+use Rattle.script.specs.declared.script.Said.{Said}
+use Rattle.script.specs.declared.script.Said.TheVariants.{Nothing}
 
 -- a graphic byte of ASCII, or space
-abbrev pub IsPlain : ℕ → Type 0
-IsPlain byte = (32 ≤ byte) × (byte ≤ 126)
+abbrev pub is_plain : ℕ → Bool
+is_plain byte = nat_le 32 byte && nat_le byte 126
 
--- a number in 1 to 16: a digit but 0, or 1 and a digit up to 6
-abbrev pub IsCount : List ℕ → Type 0
-IsCount [] = ⊥
-IsCount (digit ∷ []) = (49 ≤ digit) × (digit ≤ 57)
-IsCount (ten ∷ digit ∷ []) = (ten ≡ 49) × (48 ≤ digit) × (digit ≤ 54)
-IsCount (ten ∷ digit ∷ other ∷ more) = ⊥
-
--- `clients` and a number in 1 to 16
-pub record IsClients (text : List ℕ) : Type 0 where
-  pub count : List ℕ
-  pub counted : IsCount count
-  pub words_are : words text ≡ codes "clients" ∷ count ∷ []
-
--- one client
-abbrev pub IsOneClient : List ℕ → Type 0
-IsOneClient text = words text ≡ codes "clients" ∷ codes "1" ∷ []
+-- within the script's bytes and lines, and the line's bytes; plain bytes alone
+abbrev pub fits : NumberedLine → Result (Unit {0}) BadWhy
+fits line = if nat_lt 67108864 line.through then Err Big else if nat_lt 65536 line.number then Err Many else if nat_lt 70000 (length line.text) then Err Long else if list_all is_plain line.text then Ok tt else Err Byte
 
 -- the first byte is `#`
-abbrev pub IsComment : List ℕ → Type 0
-IsComment [] = ⊥
-IsComment (byte ∷ text) = byte ≡ 35
+abbrev pub is_comment : List ℕ → Bool
+is_comment [] = false
+is_comment (byte ∷ text) = byte == 35
 
--- a line without words, or a comment
-abbrev pub IsNothing : List ℕ → Type 0
-IsNothing text = (words text ≡ []) ⊎ IsComment text
+-- what a text says as the line of this number
+abbrev pub text_said : ℕ → List ℕ → Result Said BadWhy
+text_said number text = if number == 1 then first_said (words text) else if is_comment text then Ok Nothing else words_said number (words text)
 
--- a comment, a line without words, or a call
-abbrev pub IsServed : NumberedLine → Type 0
-IsServed line = IsNothing line.text ⊎ ((call : Call) × SpellsCall line.text call)
+-- what a line says by the whole grammar, or the first reason why it is bad
+abbrev pub line_said : NumberedLine → Result Said BadWhy
+line_said line = then_read (fits line) (λ none. text_said line.number line.text)
 
--- `clients 1` as the first line, and a served line behind it
-pub record IsBuilt (line : NumberedLine) : Type 0 where
-  pub first : line.number ≡ 1 → IsOneClient line.text
-  pub later : line.number ≢ 1 → IsServed line
+-- the same, where what isn't served yet is bad for that reason alone
+abbrev pub reading : NumberedLine → Result Said BadWhy
+reading line = then_read (line_said line) served
 
--- each reason, and when it applies to a line
-abbrev pub Applies : NumberedLine → BadWhy → Type 0
-Applies line Big = 67108864 < line.through
-Applies line Many = 65536 < line.number
-Applies line Long = 70000 < length line.text
-Applies line Byte = ¬ (All IsPlain line.text)
-Applies line First = (line.number ≡ 1) × ¬ (IsClients line.text)
-Applies line Unbuilt = ¬ (IsBuilt line)
+-- this is the first reason why the line is bad
+abbrev pub IsFirstReason : NumberedLine → BadWhy → Type 0
+IsFirstReason line why = reading line ≡ Err why
 
--- the reasons before this one
-abbrev pub before : BadWhy → List BadWhy
-before Big = []
-before Many = Big ∷ []
-before Long = Big ∷ Many ∷ []
-before Byte = Big ∷ Many ∷ Long ∷ []
-before First = Big ∷ Many ∷ Long ∷ Byte ∷ []
-before Unbuilt = Big ∷ Many ∷ Long ∷ Byte ∷ First ∷ []
-
-abbrev pub NoneApplies : NumberedLine → List BadWhy → Type 0
-NoneApplies line [] = ⊤
-NoneApplies line (why ∷ others) = ¬ (Applies line why) × NoneApplies line others
-
--- the first reason that applies to a line, in their order
-pub record IsFirstReason (line : NumberedLine) (why : BadWhy) : Type 0 where
-  pub applies : Applies line why
-  pub first : NoneApplies line (before why)
-
--- no reason applies to the line
+-- the line isn't bad: it says this
 pub record IsGood (line : NumberedLine) : Type 0 where
-  pub fits : NoneApplies line (before Unbuilt)
-  pub built : IsBuilt line
+  pub said : Said
+  pub is : reading line ≡ Ok said

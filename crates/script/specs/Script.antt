@@ -1,28 +1,53 @@
-use Rattle.std.specs.Prelude.{◌≡◌, ℕ, List, [], ◌∷◌, ◌++◌, All, drop, ⊤}
-use Rattle.tree_law.specs.declared.call.Call.{Call}
+use Rattle.std.specs.Prelude.{◌≡◌, ◌≤◌, ℕ, List, [], ◌∷◌, ◌++◌, All, true, Result, Ok, Err, ⊤}
 use Rattle.script.specs.Lines.{NumberedLine, lines_of}
-use Rattle.script.specs.CallLine.{SpellsCall}
-use Rattle.script.specs.Reasons.{IsGood, IsFirstReason, IsNothing}
+use Rattle.script.specs.Reasons.{IsGood, IsFirstReason, reading}
+use Rattle.script.specs.Served.{is_served_line}
+use Rattle.script.specs.Spelling.{IsLine}
 use Rattle.script.specs.declared.bad_line.BadLine.{BadLine}
+use Rattle.script.specs.declared.bad_line.BadWhy.{BadWhy}
 use Rattle.script.specs.declared.reading.ReadScriptError.{ReadScriptError}
 use Rattle.script.specs.declared.reading.ReadScriptError.TheVariants.{BadLine as Bad, OutOfMemory}
 use Rattle.script.specs.declared.script.Script.{Script}
-use Rattle.script.specs.declared.script.Line.{Line}
-use Rattle.script.specs.declared.script.Line.TheVariants.{Call as Called}
+use Rattle.script.specs.declared.script.Said.{Said}
+use Rattle.script.specs.declared.script.Said.TheVariants.{Nothing, Clients, Window, Line as Does}
 
--- what the lines behind the first say, in their order: each call with the number of its line
-pub data Says : List NumberedLine → List (ℕ × Line) → Type 0 where
-  ends : Says [] []
-  nothing : (line : NumberedLine) (lines : List NumberedLine) (said : List (ℕ × Line)) → IsNothing line.text → Says lines said → Says (line ∷ lines) said
-  calls : (line : NumberedLine) (lines : List NumberedLine) (said : List (ℕ × Line)) (call : Call) → SpellsCall line.text call → Says lines said
-      → Says (line ∷ lines) ((line.number, Called (record { 0 = 0 }) call) ∷ said)
+-- a script and what one more line says: the count of clients, the window, or a line with its number
+abbrev pub with_said : Script → ℕ → Said → Script
+with_said script number Nothing = script
+with_said script number (Clients count) = record { clients = count; window = script.window; lines = script.lines }
+with_said script number (Window window) = record { clients = script.clients; window = window; lines = script.lines }
+with_said script number (Does line) = record { clients = script.clients; window = script.window; lines = script.lines ++ (number, line) ∷ [] }
+
+-- a script and one more line, where it says something
+abbrev pub with_read : Script → ℕ → Result Said BadWhy → Script
+with_read script number (Ok said) = with_said script number said
+with_read script number (Err why) = script
+
+-- a script and what these lines say, one after the other, each read by itself
+abbrev pub with_lines : Script → List NumberedLine → Script
+with_lines script [] = script
+with_lines script (line ∷ lines) = with_lines (with_read script line.number (reading line)) lines
+
+-- no line yet, and a window of 4
+abbrev pub no_lines : Script
+no_lines = record { clients = 0; window = 4; lines = [] }
 
 -- the bytes are this script
 pub record IsScript (bytes : List ℕ) (script : Script) : Type 0 where
   pub good : All IsGood (lines_of bytes)
-  pub clients_is : script.clients ≡ 1
-  pub window_is : script.window ≡ 4
-  pub says : Says (drop 1 (lines_of bytes)) script.lines
+  pub says : script ≡ with_lines no_lines (lines_of bytes)
+
+-- a script that is served: of one client, with a window of 4, and of served lines
+pub record IsServedScript (script : Script) : Type 0 where
+  pub one_client : script.clients ≡ 1
+  pub window_of_four : script.window ≡ 4
+  pub lines : All (λ line. is_served_line line.1 ≡ true) script.lines
+
+-- a script whose counts and lines are within the limits of their places
+pub record IsSpelledScript (script : Script) : Type 0 where
+  pub clients : (1 ≤ script.clients) × (script.clients ≤ 16)
+  pub window : (1 ≤ script.window) × (script.window ≤ 8)
+  pub lines : All (λ line. IsLine line.1) script.lines
 
 -- the first of the lines to which a reason applies, and the first of its reasons
 pub record IsFirstBad (lines : List NumberedLine) (bad : BadLine) : Type 0 where
@@ -38,3 +63,8 @@ pub record IsFirstBad (lines : List NumberedLine) (bad : BadLine) : Type 0 where
 abbrev pub WhyNotRead : List NumberedLine → ReadScriptError → Type 0
 WhyNotRead lines (Bad bad) = IsFirstBad lines bad
 WhyNotRead lines OutOfMemory = ⊤
+
+-- a line is bad for this reason
+abbrev pub WhyBad : NumberedLine → ReadScriptError → Type 0
+WhyBad line (Bad bad) = (bad.line ≡ line.number) × IsFirstReason line bad.why
+WhyBad line OutOfMemory = ⊤

@@ -1,55 +1,33 @@
-ghost use Rattle.std.specs.Prelude.{◌≡◌, ◌≢◌, ◌∷◌, [], ℕ, IsTrue, ◌↔◌, All, IfSome, IfNone, IfOk, MatchOption};
-ghost use Rattle.tree_law.specs.declared.call.Call.{Call};
-ghost use Rattle.script.specs.Words.{words};
-ghost use Rattle.script.specs.CallLine.{SpellsCall};
-ghost use Rattle.script.specs.Reasons.{IsPlain, IsCount, IsClients, IsOneClient, IsComment, IsNothing, IsFirstReason, NoneApplies, before};
-ghost use Rattle.script.specs.declared.bad_line.BadWhy.TheVariants.{Unbuilt};
+ghost use Rattle.std.specs.Prelude.{◌≡◌};
+ghost use Rattle.std.specs.List.{list_all};
+ghost use Rattle.script.specs.Outcome.{Answers};
+ghost use Rattle.script.specs.Reasons.{is_plain, fits, is_comment, text_said, line_said, reading};
+ghost use Rattle.script.specs.Served.{is_served_call, is_served_line, is_served, served};
 
 use crate::bad_line::BadWhy;
-use crate::words::{next_word, two_words};
+use crate::command_line::{read_first, read_words};
+use crate::read_error::ReadLineError;
+use crate::script::{Line, Said};
 use cal_base::{LINE_BYTES, SCRIPT_BYTES, SCRIPT_LINES};
+use std::alloc::Global;
+use tree_law::Call;
 
-/// Whether a word is a number in 1 to 16.
-fn is_count(word: &[u8]) -> bool
-    ensures { IsTrue result ↔ IsCount word.now }
+fn is_plain(byte: u8) -> bool
+    ensures { result ≡ is_plain byte }
 {
-    match word {
-        [digit] => *digit >= b'1' && *digit <= b'9',
-        [ten, digit] => *ten == b'1' && *digit >= b'0' && *digit <= b'6',
-        [] | [_, _, _, ..] => false,
-    }
+    byte >= b' ' && byte <= b'~'
 }
 
 /// Whether all bytes are graphic ASCII or space.
-fn is_plain(text: &[u8]) -> bool
-    ensures { IsTrue result ↔ All IsPlain text.now }
+fn are_plain(text: &[u8]) -> bool
+    ensures { result ≡ list_all is_plain text.now }
 {
-    text.iter().all(|byte| *byte >= 32 && *byte <= 126)
-}
-
-/// Whether a line is `clients N`.
-fn is_clients(text: &[u8]) -> bool
-    ensures { IsTrue result ↔ IsClients text.now }
-{
-    match two_words(text) {
-        Some((command, count)) => command == b"clients".as_slice() && is_count(count),
-        None => false,
-    }
-}
-
-/// Whether a line is `clients 1`.
-pub(crate) fn is_one_client(text: &[u8]) -> bool
-    ensures { IsTrue result ↔ IsOneClient text.now }
-{
-    match two_words(text) {
-        Some((command, count)) => command == b"clients".as_slice() && count == b"1".as_slice(),
-        None => false,
-    }
+    text.iter().all(|byte| is_plain(*byte))
 }
 
 /// Whether a line begins with `#`.
 fn is_comment(text: &[u8]) -> bool
-    ensures { IsTrue result ↔ IsComment text.now }
+    ensures { result ≡ is_comment text.now }
 {
     match text {
         [byte, ..] => *byte == b'#',
@@ -57,32 +35,115 @@ fn is_comment(text: &[u8]) -> bool
     }
 }
 
-/// Whether a line has no words or is a comment.
-pub(crate) fn is_nothing(text: &[u8]) -> bool
-    ensures { IsTrue result ↔ IsNothing text.now }
-{
-    next_word(text).is_none() || is_comment(text)
+/// A line with this number, which ends after so many bytes of the script.
+#[derive(Clone, Copy)]
+pub(crate) struct PlacedLine<'a> {
+    pub(crate) number: u32,
+    pub(crate) through: usize,
+    pub(crate) text: &'a [u8],
 }
 
-/// The first reason why a line is bad, but for what it says.
-pub(crate) fn first_reason(number: usize, through: usize, text: &[u8]) -> Option<BadWhy>
-    ensures some { IfSome result (IsFirstReason (record { number = number; through = through; text = text.now })) }
-    ensures none { IfNone result (NoneApplies (record { number = number; through = through; text = text.now }) (before Unbuilt)) }
+/// Whether a line is within the limits of a script and has plain bytes alone, or why not.
+fn fits(line: PlacedLine<'_>) -> Result<(), BadWhy>
+    ensures { result ≡ fits (record { number = line.entry.number; through = line.entry.through; text = line.entry.text.now }) }
 {
-    if through > SCRIPT_BYTES {
-        return Some(BadWhy::Big);
+    if line.through > SCRIPT_BYTES {
+        Err(BadWhy::Big)
+    } else if line.number as usize > SCRIPT_LINES {
+        Err(BadWhy::Many)
+    } else if line.text.len() > LINE_BYTES {
+        Err(BadWhy::Long)
+    } else if are_plain(line.text) {
+        Ok(())
+    } else {
+        Err(BadWhy::Byte)
     }
-    if number > SCRIPT_LINES {
-        return Some(BadWhy::Many);
+}
+
+/// What a text says as the line of this number.
+fn read_text(alloc: Global, number: u32, text: &[u8]) -> Result<Said, ReadLineError>
+    ensures { Answers (text_said number text.now) result }
+{
+    if number == 1 {
+        return Ok(read_first(text)?);
     }
-    if text.len() > LINE_BYTES {
-        return Some(BadWhy::Long);
+    if is_comment(text) {
+        return Ok(Said::Nothing);
     }
-    if !is_plain(text) {
-        return Some(BadWhy::Byte);
+    read_words(alloc, number, text)
+}
+
+/// What a line says by the whole grammar.
+pub(crate) fn read_placed(alloc: Global, line: PlacedLine<'_>) -> Result<Said, ReadLineError>
+    ensures { Answers (line_said (record { number = line.entry.number; through = line.entry.through; text = line.entry.text.now })) result }
+{
+    fits(line)?;
+    read_text(alloc, line.number, line.text)
+}
+
+fn is_served_call(call: &Call) -> bool
+    ensures { result ≡ is_served_call call.now }
+{
+    match call {
+        Call::Create(_) | Call::Mkdir(_) | Call::Stat(_) | Call::Readdir(_) => true,
+        Call::Unlink(_)
+        | Call::Rmdir(_)
+        | Call::Rename(_, _)
+        | Call::Open(_, _)
+        | Call::Close(_)
+        | Call::Read { .. }
+        | Call::Write { .. }
+        | Call::Truncate { .. }
+        | Call::Fsync(_) => false,
     }
-    if number == 1 && !is_clients(text) {
-        return Some(BadWhy::First);
+}
+
+fn is_served_line(line: &Line) -> bool
+    ensures { result ≡ is_served_line line.now }
+{
+    match line {
+        Line::Call(client, call) => client.0 == 0 && is_served_call(call),
+        Line::Deliver(_)
+        | Line::Drop(_)
+        | Line::Pass(_, _)
+        | Line::Cut(_, _)
+        | Line::Mend(_, _)
+        | Line::Tick(_)
+        | Line::Crash(_)
+        | Line::Gone(_)
+        | Line::View(_)
+        | Line::WriteBack(_, _)
+        | Line::Stop { .. }
+        | Line::Settle => false,
     }
-    None
+}
+
+/// Whether what a line says is served yet.
+fn is_served(said: &Said) -> bool
+    ensures { result ≡ is_served said.now }
+{
+    match said {
+        Said::Nothing => true,
+        Said::Clients(count) => *count == 1,
+        Said::Window(_) => false,
+        Said::Line(line) => is_served_line(line),
+    }
+}
+
+fn served(said: Said) -> Result<Said, ReadLineError>
+    ensures { Answers (served said) result }
+{
+    if is_served(&said) {
+        Ok(said)
+    } else {
+        Err(ReadLineError::Bad(BadWhy::Unbuilt))
+    }
+}
+
+/// What a line says, if it is served.
+pub(crate) fn read_served(alloc: Global, line: PlacedLine<'_>) -> Result<Said, ReadLineError>
+    ensures { Answers (reading (record { number = line.entry.number; through = line.entry.through; text = line.entry.text.now })) result }
+{
+    let said = read_placed(alloc, line)?;
+    served(said)
 }

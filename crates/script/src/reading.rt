@@ -1,20 +1,18 @@
-ghost use Rattle.std.specs.Prelude.{◌≡◌, ◌≢◌, ◌+◌, ◌<◌, ◌≤◌, ◌^◌, ◌∷◌, ◌==◌, [], ℕ, List, length, IfOk, IfErr, OnOk, MatchOption, All};
+ghost use Rattle.std.specs.Prelude.{◌≡◌, ◌+◌, ◌<◌, ◌≤◌, ◌^◌, ◌∷◌, ◌==◌, ◌++◌, [], length, Ok, IfOk, IfErr, OnOk, All};
 ghost use Rattle.script.specs.Lines.{lines_of, numbered, parts_of};
-ghost use Rattle.script.specs.Reasons.{IsGood, IsNothing};
-ghost use Rattle.script.specs.Script.{IsScript, WhyNotRead, Says};
-ghost use Rattle.script.specs.Reading.{IsSaid, WhyBad, said_more};
-ghost use Rattle.script.specs.CallLine.{SpellsCall};
+ghost use Rattle.script.specs.Outcome.{Answers};
+ghost use Rattle.script.specs.Reasons.{IsGood, line_said, reading};
+ghost use Rattle.script.specs.Script.{IsScript, IsServedScript, IsSpelledScript, WhyNotRead, WhyBad, with_said, with_lines, no_lines};
 ghost use Rattle.std.specs.List.{slice_split};
 ghost use Rattle.std.specs.Option.{option_map_or};
 ghost use Rattle.script.specs.declared.reading.ReadScriptError.TheVariants.{OutOfMemory};
 
-use crate::bad_line::{BadLine, BadWhy};
-use crate::call_line::read_call_line;
-use crate::line_check::{first_reason, is_nothing, is_one_client};
-use crate::script::{Line, Script};
-use cal_base::{ClientId, DEFAULT_WINDOW, Items, Oom, cut_at};
+use crate::bad_line::BadLine;
+use crate::line_check::{PlacedLine, read_placed, read_served};
+use crate::read_error::ReadLineError;
+use crate::script::{Line, Said, Script};
+use cal_base::{DEFAULT_WINDOW, Items, Oom, cut_at};
 use std::alloc::Global;
-use tree_law::Call;
 
 /// Why bytes were not read as a script.
 #[derive(Clone, Copy, Debug, PartialEq, Eq)]
@@ -32,45 +30,50 @@ impl From<Oom> for ReadScriptError {
     }
 }
 
-/// What a line behind the first says.
-#[derive(Drop)]
-enum Said {
-    Nothing,
-    Call(Call),
-    /// Nothing that is served yet.
-    Unbuilt,
-}
-
-fn said_by(alloc: Global, text: &[u8]) -> Result<Said, Oom>
-    ensures { IfOk result (IsSaid text.now) }
+/// Reads one line by the whole grammar, also where it isn't served yet: the line of this number, from 1,
+/// that ends after so many bytes of its script, its line feed included. A line that isn't read is bad for
+/// the first reason.
+pub fn read_line(
+    alloc: Global,
+    number: u32,
+    through: usize,
+    text: &[u8],
+) -> Result<Said, ReadLineError>
+    ensures { Answers (line_said (record { number = number; through = through; text = text.now })) result }
 {
-    if is_nothing(text) {
-        return Ok(Said::Nothing);
-    }
-    match read_call_line(alloc, text)? {
-        Some(call) => Ok(Said::Call(call)),
-        None => Ok(Said::Unbuilt),
-    }
+    read_placed(
+        alloc,
+        PlacedLine {
+            number,
+            through,
+            text,
+        },
+    )
 }
 
-/// Reads a script: its lines up to 65,536 of at most 70,000 bytes each, `clients 1` as the first and then
-/// calls of client 0, comments and lines without words. What is read is the script of these bytes; else
-/// the first bad line is told, with the first reason that applies to it.
+/// Reads a script: its lines up to 65,536 of at most 70,000 bytes each, `clients N` as the first, maybe
+/// `window K` as the second, and then calls of clients, commands, comments and lines without words. What
+/// is read is the script of these bytes; else the first bad line is told, with the first reason that
+/// applies to it. A line that isn't served yet is bad for that reason.
 pub fn read_script(alloc: Global, bytes: &[u8]) -> Result<Script, ReadScriptError>
     ensures ok { IfOk result (IsScript bytes.now) }
+    ensures served { IfOk result IsServedScript }
+    ensures spelled { IfOk result IsSpelledScript }
     ensures fits { OnOk result (length bytes.now ≤ 67108864) }
     ensures bad { IfErr result (WhyNotRead (lines_of bytes.now)) }
 {
     let first = cut_line(bytes);
-    if let Err(error) = read_first_line(first.taken, first.text) {
-        return Err(error);
+    let mut script = Script {
+        clients: 0,
+        window: DEFAULT_WINDOW,
+        lines: Items::new(alloc),
+    };
+    match read_next(alloc, 1, first.taken, first.text) {
+        Ok(said) => say(&mut script, 1, said)?,
+        Err(error) => return Err(error),
     }
-    match read_lines(alloc, first.taken, first.rest) {
-        Ok(lines) => Ok(Script {
-            clients: 1,
-            window: DEFAULT_WINDOW,
-            lines,
-        }),
+    match read_lines(alloc, script, first.taken, first.rest) {
+        Ok(script) => Ok(script),
         Err(error) => Err(error),
     }
 }
@@ -78,31 +81,32 @@ pub fn read_script(alloc: Global, bytes: &[u8]) -> Result<Script, ReadScriptErro
 /// Reads the lines behind the first, which ends after so many bytes.
 fn read_lines(
     alloc: Global,
+    begun: Script,
     first: usize,
     rest: Option<&[u8]>,
-) -> Result<Items<(u32, Line)>, ReadScriptError>
+) -> Result<Script, ReadScriptError>
     requires within { first + option_map_or (λ text. length text.now) rest 0 < 2 ^ 64 }
     requires begun { first ≤ 67108864 }
     ensures fits { OnOk result (first + option_map_or (λ text. length text.now) rest.entry 0 ≤ 67108864) }
     ensures good { OnOk result (All IsGood (numbered 2 first (parts_of rest.entry))) }
-    ensures ok { IfOk result (Says (numbered 2 first (parts_of rest.entry))) }
+    ensures ok { IfOk result (λ script. script ≡ with_lines begun (numbered 2 first (parts_of rest.entry))) }
     ensures bad { IfErr result (WhyNotRead (numbered 2 first (parts_of rest.entry))) }
 {
-    let mut said = Items::new(alloc);
+    let mut script = begun;
     let mut number = 2u32;
     let mut through = first;
     let mut left = rest;
     loop {
         let Some(text) = left else {
-            return Ok(said);
+            return Ok(script);
         };
         let line = cut_line(text);
         if line.taken == 0 {
-            return Ok(said);
+            return Ok(script);
         }
         through += line.taken;
-        match read_line(alloc, number, through, line.text) {
-            Ok(call) => say(&mut said, number, call)?,
+        match read_next(alloc, number, through, line.text) {
+            Ok(said) => say(&mut script, number, said)?,
             Err(error) => return Err(error),
         }
         number += 1;
@@ -110,54 +114,52 @@ fn read_lines(
     }
 }
 
-/// Puts the call of a line, if it has one, behind what is said.
-fn say(said: &mut Items<(u32, Line)>, number: u32, call: Option<Call>) -> Result<(), Oom>
-    ensures { OnOk result (said.new ≡ said_more said.old number call) }
+/// Adds what a line says to a script.
+fn say(script: &mut Script, number: u32, said: Said) -> Result<(), Oom>
+    ensures { OnOk result (script.new ≡ with_said script.old number said) }
 {
-    match call {
-        Some(call) => said.push((number, Line::Call(ClientId(0), call))),
-        None => Ok(()),
+    match said {
+        Said::Nothing => Ok(()),
+        Said::Clients(clients) => {
+            script.clients = clients;
+            Ok(())
+        }
+        Said::Window(window) => {
+            script.window = window;
+            Ok(())
+        }
+        Said::Line(line) => put_line(&mut script.lines, number, line),
     }
 }
 
-/// Reads a line behind the first: its call, or none for a line that does nothing.
-fn read_line(
+fn put_line(lines: &mut Items<(u32, Line)>, number: u32, line: Line) -> Result<(), Oom>
+    ensures { OnOk result (lines.new ≡ lines.old ++ (number, line) ∷ []) }
+{
+    lines.push((number, line))
+}
+
+/// Reads the line of this number, which ends after so many bytes: what it says.
+fn read_next(
     alloc: Global,
     number: u32,
     through: usize,
     text: &[u8],
-) -> Result<Option<Call>, ReadScriptError>
-    requires { number ≢ 1 }
-    ensures good { OnOk result (IsGood (record { number = number; through = through; text = text.now })) }
-    ensures says { IfOk result (λ call. MatchOption call (IsNothing text.now) (SpellsCall text.now)) }
+) -> Result<Said, ReadScriptError>
+    ensures said { IfOk result (λ said. reading (record { number = number; through = through; text = text.now }) ≡ Ok said) }
     ensures bad { IfErr result (WhyBad (record { number = number; through = through; text = text.now })) }
 {
-    if let Some(why) = first_reason(number as usize, through, text) {
-        return Err(ReadScriptError::BadLine(BadLine { line: number, why }));
-    }
-    match said_by(alloc, text)? {
-        Said::Nothing => Ok(None),
-        Said::Call(call) => Ok(Some(call)),
-        Said::Unbuilt => {
-            let why = BadWhy::Unbuilt;
+    let placed = PlacedLine {
+        number,
+        through,
+        text,
+    };
+    match read_served(alloc, placed) {
+        Ok(said) => Ok(said),
+        Err(ReadLineError::Bad(why)) => {
             Err(ReadScriptError::BadLine(BadLine { line: number, why }))
         }
+        Err(ReadLineError::OutOfMemory) => Err(ReadScriptError::OutOfMemory),
     }
-}
-
-/// Reads the first line.
-fn read_first_line(through: usize, text: &[u8]) -> Result<(), ReadScriptError>
-    ensures good { OnOk result (IsGood (record { number = 1; through = through; text = text.now })) }
-    ensures bad { IfErr result (WhyBad (record { number = 1; through = through; text = text.now })) }
-{
-    if let Some(why) = first_reason(1, through, text) {
-        return Err(ReadScriptError::BadLine(BadLine { line: 1, why }));
-    }
-    if !is_one_client(text) {
-        let why = BadWhy::Unbuilt;
-        return Err(ReadScriptError::BadLine(BadLine { line: 1, why }));
-    }
-    Ok(())
 }
 
 /// A line cut from the front of a text.

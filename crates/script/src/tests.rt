@@ -1,6 +1,251 @@
-use crate::{BadLine, BadWhy, ReadScriptError, read_script};
+use crate::{
+    BadLine, BadWhy, How, Line, ReadLineError, ReadScriptError, Said, read_call, read_line,
+    read_script,
+};
+use cal_base::{Blob, ClientId, NodeId, ServerId};
 use std::alloc::Global;
 use std::test::Fail;
+use tree_law::Call;
+
+/// Why a line is bad by the whole grammar, if it is.
+fn reason(alloc: Global, number: u32, line: &str) -> Result<Option<BadWhy>, Fail> {
+    match read_line(alloc, number, 100, line.as_bytes()) {
+        Ok(_) => Ok(None),
+        Err(ReadLineError::Bad(why)) => Ok(Some(why)),
+        Err(ReadLineError::OutOfMemory) => Err("no memory")?,
+    }
+}
+
+/// What a line does.
+fn does(alloc: Global, line: &str) -> Result<Line, Fail> {
+    match read_line(alloc, 3, 100, line.as_bytes()) {
+        Ok(Said::Line(line)) => Ok(line),
+        Ok(_) | Err(_) => Err("no such line")?,
+    }
+}
+
+/// The first bad line of a script.
+fn first_bad(alloc: Global, script: &str) -> Result<Option<(u32, BadWhy)>, Fail> {
+    match read_script(alloc, script.as_bytes()) {
+        Ok(_) => Ok(None),
+        Err(ReadScriptError::BadLine(BadLine { line, why })) => Ok(Some((line, why))),
+        Err(ReadScriptError::OutOfMemory) => Err("no memory")?,
+    }
+}
+
+#[test]
+fn calls_have_good_and_bad_lines(rt: HostRuntime) -> Result<(), Fail> {
+    let alloc = rt.alloc();
+    let lines = [
+        ("c0 create /a", None),
+        ("c15 mkdir /a/b", None),
+        ("c1 unlink /a", None),
+        ("c1 rmdir /", None),
+        ("c1 stat /a", None),
+        ("c1 readdir /", None),
+        ("c1 rename /a /b", None),
+        ("c1 open /a rw", None),
+        ("c1 close 255", None),
+        ("c1 fsync 0", None),
+        ("c1 read 0 18446744073709551615 262144", None),
+        ("c1 write 0 0 00ff", None),
+        ("c1 fill 0 0 32768 7a", None),
+        ("c1 truncate 0 18446744073709551615", None),
+        (" c1  stat   /a ", None),
+        ("c16 stat /a", Some(BadWhy::Word)),
+        ("c01 stat /a", Some(BadWhy::Word)),
+        ("A stat /a", Some(BadWhy::Word)),
+        ("c1", Some(BadWhy::Count)),
+        ("c1 look /a", Some(BadWhy::Word)),
+        ("c1 create", Some(BadWhy::Count)),
+        ("c1 mkdir /a /b", Some(BadWhy::Count)),
+        ("c1 unlink a", Some(BadWhy::Path)),
+        ("c1 rmdir //", Some(BadWhy::Path)),
+        ("c1 rename /a", Some(BadWhy::Count)),
+        ("c1 rename /a ..", Some(BadWhy::Path)),
+        ("c1 open /a wr", Some(BadWhy::Word)),
+        ("c1 open a wr more", Some(BadWhy::Word)),
+        ("c1 open /a", Some(BadWhy::Count)),
+        ("c1 open a r", Some(BadWhy::Path)),
+        ("c1 close 256", Some(BadWhy::Number)),
+        ("c1 fsync 00", Some(BadWhy::Number)),
+    ];
+    for (line, why) in lines {
+        assert_eq!(rt; reason(alloc, 3, line)?, why, "{line}");
+    }
+    Ok(())
+}
+
+#[test]
+fn calls_on_bytes_have_good_and_bad_lines(rt: HostRuntime) -> Result<(), Fail> {
+    let alloc = rt.alloc();
+    let lines = [
+        ("c1 read 0 0", Some(BadWhy::Count)),
+        ("c1 read 0 0 262145", Some(BadWhy::Number)),
+        ("c1 read 0 18446744073709551616 1", Some(BadWhy::Number)),
+        ("c1 read 0 +1 1", Some(BadWhy::Number)),
+        ("c1 write 0 0 0", Some(BadWhy::Hex)),
+        ("c1 write 0 0 0F", Some(BadWhy::Hex)),
+        ("c1 write 0 x 0F", Some(BadWhy::Number)),
+        ("c1 write 0 0", Some(BadWhy::Count)),
+        ("c1 fill 0 0 0 7a", Some(BadWhy::Number)),
+        ("c1 fill 0 0 32769 7a", Some(BadWhy::Number)),
+        ("c1 fill 0 0 1 7", Some(BadWhy::Hex)),
+        ("c1 fill 0 0 1 7a7a", Some(BadWhy::Hex)),
+        ("c1 fill 0 0 1", Some(BadWhy::Count)),
+        ("c1 truncate 0", Some(BadWhy::Count)),
+        ("c1 truncate 0 -1", Some(BadWhy::Number)),
+    ];
+    for (line, why) in lines {
+        assert_eq!(rt; reason(alloc, 3, line)?, why, "{line}");
+    }
+    Ok(())
+}
+
+#[test]
+fn commands_have_good_and_bad_lines(rt: HostRuntime) -> Result<(), Fail> {
+    let alloc = rt.alloc();
+    let lines = [
+        ("deliver 7", None),
+        ("deliver x", Some(BadWhy::Number)),
+        ("drop 0", None),
+        ("drop", Some(BadWhy::Count)),
+        ("pass c0 A", None),
+        ("pass c0 C", Some(BadWhy::Word)),
+        ("pass c0 C 1", Some(BadWhy::Word)),
+        ("pass c0", Some(BadWhy::Count)),
+        ("cut A B", None),
+        ("cut A B B", Some(BadWhy::Count)),
+        ("mend B c15", None),
+        ("mend B c16", Some(BadWhy::Word)),
+        ("tick A", None),
+        ("tick", Some(BadWhy::Count)),
+        ("crash c3", None),
+        ("crash a", Some(BadWhy::Word)),
+        ("gone c3", None),
+        ("gone A", Some(BadWhy::Word)),
+        ("view B", None),
+        ("view c0", Some(BadWhy::Word)),
+        ("writeback c0 3", None),
+        ("writeback B 0", Some(BadWhy::Word)),
+        ("writeback c0 300", Some(BadWhy::Number)),
+        ("settle", None),
+        ("settle 1", Some(BadWhy::Count)),
+        ("clients 1", Some(BadWhy::Word)),
+        ("window 4", Some(BadWhy::Word)),
+        ("\tsettle", Some(BadWhy::Byte)),
+    ];
+    for (line, why) in lines {
+        assert_eq!(rt; reason(alloc, 3, line)?, why, "{line}");
+    }
+    Ok(())
+}
+
+#[test]
+fn stops_and_windows_have_good_and_bad_lines(rt: HostRuntime) -> Result<(), Fail> {
+    let alloc = rt.alloc();
+    let lines = [
+        ("stop A 0 clean", None),
+        ("stop B 4294967295 fill ff", None),
+        ("stop A 1 hex 0102", None),
+        ("stop c0 1 clean", Some(BadWhy::Word)),
+        ("stop A x torn", Some(BadWhy::Word)),
+        ("stop A 1", Some(BadWhy::Count)),
+        ("stop A x clean 1", Some(BadWhy::Count)),
+        ("stop A 4294967296 hex zz", Some(BadWhy::Number)),
+        ("stop A 1 fill zz", Some(BadWhy::Hex)),
+        ("stop A 1 hex 012", Some(BadWhy::Hex)),
+        ("window 1", None),
+        ("window 8", None),
+        ("window 9", Some(BadWhy::Number)),
+        ("window 0", Some(BadWhy::Number)),
+        ("window", Some(BadWhy::Count)),
+    ];
+    for (line, why) in lines {
+        assert_eq!(rt; reason(alloc, 2, line)?, why, "{line}");
+    }
+    Ok(())
+}
+
+#[test]
+fn a_fill_is_a_write(rt: HostRuntime) -> Result<(), Fail> {
+    let alloc = rt.alloc();
+    let filled = Call::Write {
+        fd: 1,
+        offset: 2,
+        bytes: Blob::from_vec(b"zzz".to_vec(alloc)?),
+    };
+    assert_eq!(rt;
+        does(alloc, "c2 fill 1 2 3 7a")?,
+        Line::Call(ClientId(2), filled)
+    );
+    Ok(())
+}
+
+#[test]
+fn a_stop_has_the_bytes_of_its_sector(rt: HostRuntime) -> Result<(), Fail> {
+    let alloc = rt.alloc();
+    let torn = Line::Stop {
+        server: ServerId::B,
+        after: 3,
+        how: How::Hex(Blob::from_vec(b"az".to_vec(alloc)?)),
+    };
+    assert_eq!(rt; does(alloc, "stop B 3 hex 617a")?, torn);
+    Ok(())
+}
+
+#[test]
+fn nodes_are_clients_and_servers(rt: HostRuntime) -> Result<(), Fail> {
+    let alloc = rt.alloc();
+    let cut = Line::Cut(NodeId::Client(ClientId(10)), NodeId::Server(ServerId::A));
+    assert_eq!(rt; does(alloc, "cut c10 A")?, cut);
+    Ok(())
+}
+
+#[test]
+fn a_call_is_read_without_its_client(rt: HostRuntime) -> Result<(), Fail> {
+    let alloc = rt.alloc();
+    let read = Call::Read {
+        fd: 31,
+        offset: 0,
+        len: 9,
+    };
+    assert_eq!(rt; read_call(alloc, b"read 31 0 9"), Ok(read));
+    Ok(())
+}
+
+#[test]
+fn the_first_bad_line_is_told_with_its_first_reason(rt: HostRuntime) -> Result<(), Fail> {
+    let alloc = rt.alloc();
+    let scripts = [
+        ("", Some((1, BadWhy::First))),
+        ("clients 1", None),
+        ("\nclients 1\n", Some((1, BadWhy::First))),
+        ("# clients 1\n", Some((1, BadWhy::First))),
+        ("clients 0\n", Some((1, BadWhy::First))),
+        ("clients 17\n", Some((1, BadWhy::First))),
+        ("clients 1 2\n", Some((1, BadWhy::First))),
+        ("clients 16\n", Some((1, BadWhy::Unbuilt))),
+        (
+            " clients  1 \n\n   \n# c0 stat\n c0  create /a \nc0 stat /",
+            None,
+        ),
+        (
+            "clients 1\nc0 stat /a\nc0 read 0 0\n",
+            Some((3, BadWhy::Count)),
+        ),
+        ("clients 1\nc0 read 0 0 1\n", Some((2, BadWhy::Unbuilt))),
+        ("clients 1\nc1 stat /a\n", Some((2, BadWhy::Unbuilt))),
+        ("clients 1\nwindow 4\n", Some((2, BadWhy::Unbuilt))),
+        ("clients 1\n\nwindow 4\n", Some((3, BadWhy::Word))),
+        ("clients 1\n#\u{0}\nc0 open\n", Some((2, BadWhy::Byte))),
+        ("clients 1\n#\u{7f}\n", Some((2, BadWhy::Byte))),
+    ];
+    for (text, bad) in scripts {
+        assert_eq!(rt; first_bad(alloc, text)?, bad, "{text}");
+    }
+    Ok(())
+}
 
 /// A script of `clients 1` and so many copies of a line.
 fn copies(alloc: Global, line: &str, count: usize) -> Result<Vec<u8>, Fail> {
@@ -9,52 +254,6 @@ fn copies(alloc: Global, line: &str, count: usize) -> Result<Vec<u8>, Fail> {
         bytes.extend_from_slice(line.as_bytes())?;
     }
     Ok(bytes)
-}
-
-#[test]
-fn the_first_bad_line_is_told_with_its_first_reason(rt: HostRuntime) -> Result<(), Fail> {
-    let alloc = rt.alloc();
-    let scripts = [
-        ("", Some((1, BadWhy::First)), 0),
-        ("clients 1", None, 0),
-        ("clients 1\n", None, 0),
-        ("\nclients 1\n", Some((1, BadWhy::First)), 0),
-        ("# clients 1\n", Some((1, BadWhy::First)), 0),
-        ("clients 0\n", Some((1, BadWhy::First)), 0),
-        ("clients 01\n", Some((1, BadWhy::First)), 0),
-        ("clients 17\n", Some((1, BadWhy::First)), 0),
-        ("clients 1 2\n", Some((1, BadWhy::First)), 0),
-        ("clients 16\n", Some((1, BadWhy::Unbuilt)), 0),
-        (
-            " clients  1 \n\n   \n# c0 stat\n c0  create /a \nc0 stat /",
-            None,
-            2,
-        ),
-        ("clients 1\nc0 open /a r\n", Some((2, BadWhy::Unbuilt)), 0),
-        ("clients 1\nc0 stat /a b\n", Some((2, BadWhy::Unbuilt)), 0),
-        ("clients 1\nc1 stat /a\n", Some((2, BadWhy::Unbuilt)), 0),
-        (
-            "clients 1\nc0 mkdir /a\nc0 readdir //\n",
-            Some((3, BadWhy::Unbuilt)),
-            0,
-        ),
-        ("clients 1\r\n", Some((1, BadWhy::Byte)), 0),
-        ("clients 1\n#\u{0}\nc0 open\n", Some((2, BadWhy::Byte)), 0),
-        ("clients 1\n#\u{7f}\n", Some((2, BadWhy::Byte)), 0),
-    ];
-    for (text, bad, calls) in scripts {
-        match read_script(alloc, text.as_bytes()) {
-            Ok(script) => {
-                assert_eq!(rt; bad, None, "{text}");
-                assert_eq!(rt; script.lines.len(), calls, "{text}");
-            }
-            Err(error) => {
-                let told = bad.map(|(line, why)| ReadScriptError::BadLine(BadLine { line, why }));
-                assert_eq!(rt; Some(error), told, "{text}");
-            }
-        }
-    }
-    Ok(())
 }
 
 #[test]

@@ -1,3 +1,11 @@
 pub mod DirectoryNames
+pub mod Histories
+pub mod IdleLemmas
+pub mod PartAnswers
+pub mod PartLemmas
+pub mod PartNeeds
 pub mod PathParts
+pub mod Places
+pub mod PurgeLemmas
+pub mod Sweeping
 pub mod Walks

@@ -4,7 +4,7 @@ use Rattle.std.proofs.lemmas.List.{drop_more}
 use Rattle.cal_base.specs.declared.identity.Ino.{Ino}
 use Rattle.tree_law.specs.declared.reply.Why.{Why}
 use Rattle.tree_law.specs.Tree.{Tree, node_at}
-use Rattle.tree_law.specs.Answer.{walked, looked_up, resolved, new_place, room_at, last_of, prefix_of}
+use Rattle.tree_law.specs.Resolve.{walked, looked_up}
 
 -- after a refusal nothing is looked up
 pub refused_walk : (tree : Tree) (why : Why) (names : List (List ℕ)) → walked tree (Err why) names ≡ Err why
@@ -22,8 +22,3 @@ walk_on tree at names i name next inside is found =
 pub walk_ends : (tree : Tree) (at : Ino) (names : List (List ℕ)) (i : ℕ) (name : List ℕ) (why : Why) → i < length names → name ≡ get_or names i name → looked_up (node_at tree at) name ≡ Err why
     → walked tree (Ok at) (drop i names) ≡ Err why
 walk_ends tree at names i name why inside is found = walk_on tree at names i name (Err why) inside is found ∙ refused_walk tree why (drop (i + 1) names)
-
--- below the root the place of a new name is its directory
-pub new_place_below : (tree : Tree) (path : List (List ℕ)) → 0 < length path → new_place tree path ≡ room_at tree (last_of path) (resolved tree (prefix_of path))
-new_place_below tree [] some = absurd (omega arith)
-new_place_below tree (name ∷ names) some = refl

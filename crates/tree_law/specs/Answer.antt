@@ -1,62 +1,40 @@
--- How the tree answers a call: resolving as in POSIX.1, and the refusals in their order.
-use Rattle.std.specs.Prelude.{◌-◌, ℕ, List, [], ◌∷◌, length, take, slice_index_or, Option, Some, None, Result, Ok, Err, ok_or, is_some, nat_le, if◌then◌else◌}
+-- How the tree answers a call, where neither an inode nor a block is wanting: the first refusal, else Ok.
+use Rattle.std.specs.Prelude.{◌+◌, ℕ, List, length, Option, Some, None, Result, Ok, Err}
 use Rattle.std.specs.FinMap as map
+use Rattle.cal_base.specs.declared.identity.ClientId.{ClientId}
 use Rattle.cal_base.specs.declared.identity.Ino.{Ino}
-use Rattle.tree_law.specs.Tree.{Tree, root, node_at}
+use Rattle.tree_law.specs.Bytes.{read_at}
+use Rattle.tree_law.specs.Tree.{Tree, node_at, contents_of, table_of, least_unused}
+use Rattle.tree_law.specs.Resolve.{resolved, new_place, file_named, removable}
+use Rattle.tree_law.specs.Rename.{move_of}
+use Rattle.tree_law.specs.Descriptors.{opened, readable, writable, within_limit}
 use Rattle.tree_law.specs.declared.node.Node.{Node}
 use Rattle.tree_law.specs.declared.node.Node.TheVariants.{Directory, Regular}
 use Rattle.tree_law.specs.declared.call.Call.{Call}
-use Rattle.tree_law.specs.declared.call.Call.TheVariants.{Create, Mkdir, Stat, Readdir}
+use Rattle.tree_law.specs.declared.call.Call.TheVariants.{Create, Mkdir, Unlink, Rmdir, Rename, Open, Close, Read, Write, Truncate, Stat, Readdir, Fsync}
+use Rattle.tree_law.specs.declared.rename.Move.{Move}
 use Rattle.tree_law.specs.declared.reply.Reply.{Reply}
-use Rattle.tree_law.specs.declared.reply.Reply.TheVariants.{Done, File, Dir, Names as Listed, Refused}
+use Rattle.tree_law.specs.declared.reply.Reply.TheVariants.{Done, Fd, Bytes, Count, File, Dir, Names as Listed, Refused}
 use Rattle.tree_law.specs.declared.reply.Why.{Why}
-use Rattle.tree_law.specs.declared.reply.Why.TheVariants.{Exist, NoEnt, NotDir, DirFull}
-
--- the names of a path before its last, and the last
-abbrev pub prefix_of : List (List ℕ) → List (List ℕ)
-prefix_of path = take (length path - 1) path
-
-abbrev pub last_of : List (List ℕ) → List ℕ
-last_of path = slice_index_or path (length path - 1) []
-
--- a name looked up in an inode: ENOTDIR in a file, ENOENT where it isn't there
-abbrev pub looked_up : Option Node → List ℕ → Result Ino Why
-looked_up (Some (Directory names)) name = ok_or (map.get names name) NoEnt
-looked_up (Some (Regular file)) name = Err NotDir
-looked_up None name = Err NoEnt
-
-abbrev pub stepped : Tree → Result Ino Why → List ℕ → Result Ino Why
-stepped tree (Ok ino) name = looked_up (node_at tree ino) name
-stepped tree (Err why) name = Err why
-
--- the inode at which the names end, walked from this one on, or the first refusal
-abbrev pub walked : Tree → Result Ino Why → List (List ℕ) → Result Ino Why
-walked tree at [] = at
-walked tree at (name ∷ names) = walked tree (stepped tree at name) names
-
--- the inode that a path names, or the first refusal on the way down from the root
-abbrev pub resolved : Tree → List (List ℕ) → Result Ino Why
-resolved tree path = walked tree (Ok root) path
-
--- an inode as the place of a new name: ENOTDIR, EEXIST, DIRFULL
-abbrev pub room_for : Option Node → List ℕ → Ino → Result Ino Why
-room_for (Some (Directory names)) name ino = if is_some (map.get names name) then Err Exist else (if nat_le 1024 (map.len names) then Err DirFull else Ok ino)
-room_for (Some (Regular file)) name ino = Err NotDir
-room_for None name ino = Err NoEnt
-
-abbrev pub room_at : Tree → List ℕ → Result Ino Why → Result Ino Why
-room_at tree name (Ok ino) = room_for (node_at tree ino) name ino
-room_at tree name (Err why) = Err why
-
--- the directory in which the last name of a path can be made, or the first refusal:
--- EEXIST for the root, those of resolving that directory, ENOTDIR, EEXIST, DIRFULL
-abbrev pub new_place : Tree → List (List ℕ) → Result Ino Why
-new_place tree [] = Err Exist
-new_place tree (name ∷ names) = room_at tree (last_of (name ∷ names)) (resolved tree (prefix_of (name ∷ names)))
+use Rattle.tree_law.specs.declared.reply.Why.TheVariants.{NoEnt, NotDir, MFile}
 
 abbrev pub made : Result Ino Why → Reply
 made (Ok ino) = Done
 made (Err why) = Refused why
+
+abbrev pub moved : Result Move Why → Reply
+moved (Ok move) = Done
+moved (Err why) = Refused why
+
+-- EMFILE before all others
+abbrev pub opened_as : Option ℕ → Result Ino Why → Reply
+opened_as None file = Refused MFile
+opened_as (Some fd) (Ok ino) = Fd fd
+opened_as (Some fd) (Err why) = Refused why
+
+abbrev pub counted : ℕ → Result Ino Why → Reply
+counted count (Ok ino) = Count count
+counted count (Err why) = Refused why
 
 abbrev pub status_of : Option Node → Reply
 status_of (Some (Directory names)) = Dir
@@ -68,13 +46,25 @@ listing_of (Some (Directory names)) = Listed (map.keys names)
 listing_of (Some (Regular file)) = Refused NotDir
 listing_of None = Refused NoEnt
 
+abbrev pub bytes_of : ℕ → ℕ → Option Node → Reply
+bytes_of offset count node = Bytes (read_at (contents_of node) offset count)
+
 abbrev pub told_at : (Option Node → Reply) → Tree → Result Ino Why → Reply
 told_at told tree (Ok ino) = told (node_at tree ino)
 told_at told tree (Err why) = Refused why
 
--- the answer of the tree, where neither an inode nor a block is wanting
-abbrev pub answer : Tree → Call → Reply
-answer tree (Create path) = made (new_place tree path)
-answer tree (Mkdir path) = made (new_place tree path)
-answer tree (Stat path) = told_at status_of tree (resolved tree path)
-answer tree (Readdir path) = told_at listing_of tree (resolved tree path)
+-- the answer of the tree to a client's call
+abbrev pub answer : Tree → ClientId → Call → Reply
+answer tree client (Create path) = made (new_place tree path)
+answer tree client (Mkdir path) = made (new_place tree path)
+answer tree client (Unlink path) = made (file_named tree path)
+answer tree client (Rmdir path) = made (removable tree path)
+answer tree client (Rename path goal) = moved (move_of tree path goal)
+answer tree client (Open path mode) = opened_as (least_unused (table_of tree client)) (file_named tree path)
+answer tree client (Close fd) = made (opened (table_of tree client) fd)
+answer tree client (Read fd offset len) = told_at (bytes_of offset len) tree (readable (table_of tree client) fd)
+answer tree client (Write fd offset bytes) = counted (length bytes) (within_limit (offset + length bytes) (writable (table_of tree client) fd))
+answer tree client (Truncate fd size) = made (within_limit size (writable (table_of tree client) fd))
+answer tree client (Stat path) = told_at status_of tree (resolved tree path)
+answer tree client (Readdir path) = told_at listing_of tree (resolved tree path)
+answer tree client (Fsync fd) = made (opened (table_of tree client) fd)

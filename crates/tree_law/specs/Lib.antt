@@ -1,6 +1,16 @@
+pub mod After
 pub mod Answer
-pub mod Contents
+pub mod Bytes
+pub mod Descriptors
+pub mod FileState
+pub mod Idle
+pub mod Kept
 pub mod Legal
 pub mod Names
+pub mod Needs
+pub mod Part
+pub mod PartOf
 pub mod Path
+pub mod Rename
+pub mod Resolve
 pub mod Tree

@@ -1,4 +1,5 @@
-ghost use Rattle.std.specs.Prelude.{◌≡◌, IfOk, OnOk, OnErr};
+ghost use Rattle.std.specs.Prelude.{◌≡◌, ◌==◌, IfOk, OnOk, OnErr};
+ghost use Rattle.std.specs.List.{list_any};
 ghost use Rattle.std.specs.FinMap as map;
 
 use crate::path::copy_name;
@@ -61,6 +62,26 @@ impl Directory {
     {
         self.entries.insert(name, ino)?;
         Ok(())
+    }
+
+    /// Takes a name away, if it stands.
+    pub fn remove(&mut self, name: &Blob)
+        ensures { self.new ≡ map.remove self.old name.now }
+    {
+        self.entries.remove(name);
+    }
+
+    /// Whether a name stands for this inode.
+    pub fn names_inode(&self, ino: u32) -> bool
+        ensures { result ≡ list_any (λ named. named.0 == ino) (map.values self.now) }
+    {
+        let mut found = false;
+        for named in self.entries.values() {
+            if named.0 == ino {
+                found = true;
+            }
+        }
+        found
     }
 
     /// Its names, sorted by their bytes.

@@ -15,4 +15,13 @@ pub enum Entry {
         /// The inode that the call made.
         new_ino: Option<Ino>,
     },
+    /// What a client wrote to a file since its last flush now lasts.
+    Flush {
+        client: ClientId,
+        ino: Ino,
+    },
+    /// A crashed client's unflushed writes and its descriptors go, and it never returns.
+    Purge {
+        client: ClientId,
+    },
 }

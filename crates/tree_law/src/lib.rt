@@ -5,23 +5,39 @@
 
 mod answer;
 mod apply;
+mod bytes;
 mod call;
+mod change;
+mod descriptor;
 mod directory;
 mod entry;
+mod flushed;
+mod law;
+mod mode;
 mod node;
+mod opened;
 mod path;
 mod plain_tree;
 mod regular_file;
+mod rename;
 mod reply;
+mod request;
+mod resolve;
+mod sweep;
 #[cfg(test)]
 mod tests;
 
 pub use apply::ApplyError;
 pub use call::Call;
+pub use descriptor::{Descriptor, DescriptorTable};
 pub use directory::Directory;
 pub use entry::Entry;
+pub use law::{a_part_answers_as_the_whole, a_purge_takes_one_client, no_file_is_idle};
+pub use mode::Mode;
 pub use node::Node;
 pub use path::{Path, ReadPathError, read_path};
 pub use plain_tree::PlainTree;
 pub use regular_file::RegularFile;
+pub use rename::Move;
 pub use reply::{Reply, Why};
+pub use request::{Asked, Request, Want};

@@ -1,4 +1,4 @@
-use cal_base::NameList;
+use cal_base::{Blob, NameList};
 
 /// Why a call is refused. Unless said, the cause is that of POSIX.1's error of that name.
 #[derive(Clone, Copy, Debug, PartialEq, Eq)]
@@ -9,19 +9,39 @@ pub enum Why {
     NoEnt,
     /// ENOTDIR: a name on the path before the last, or what has to be a directory, is a file.
     NotDir,
-    /// Fewer blocks are free than the call needs.
+    /// EISDIR: what has to be a file is a directory.
+    IsDir,
+    /// ENOTEMPTY: the directory has entries.
+    NotEmpty,
+    /// EINVAL: a directory would be moved into itself.
+    Inval,
+    /// EBUSY: the root is neither removed nor moved.
+    Busy,
+    /// EMFILE: the client has its 32 descriptors in use.
+    MFile,
+    /// EBADF: the descriptor isn't open, or not for this.
+    BadF,
+    /// EFBIG: the file would pass 262,144 bytes.
+    FBig,
+    /// ENOSPC: fewer blocks are free than the call needs.
     NoSpace { free: u16, needed: u16 },
-    /// All 512 inodes are in use.
+    /// ENOSPC, of inodes: all 512 are in use.
     NoInode,
-    /// The directory has its 1,024 entries.
+    /// ENOSPC, of one directory: it has its 1,024 entries.
     DirFull,
 }
 
 /// The answer of a call.
 #[derive(Clone, Debug, Drop, PartialEq, Eq)]
 pub enum Reply {
-    /// An entry was made.
+    /// The call was carried out, and has nothing to tell.
     Done,
+    /// The file is open under this descriptor.
+    Fd(u8),
+    /// The bytes read; none at or past the end of the file.
+    Bytes(Blob),
+    /// How many bytes were written: all that were handed in.
+    Count(u32),
     /// The path names a file of this size in bytes.
     File(u32),
     /// The path names a directory.

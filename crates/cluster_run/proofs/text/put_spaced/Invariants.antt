@@ -2,5 +2,5 @@ use Rattle.std.proofs.Common.{◌≡◌, ◌++◌, drop}
 use Rattle.cluster_run.specs.Text.{spaced}
 use Rattle.cluster_run.proofs.text.put_spaced.Given as goal
 
-abbrev pub invariant-loop-name : goal.invariant-loop-name
-invariant-loop-name l = l.text.items ++ spaced (drop l.name-index l.names) ≡ l.fn.text.items ++ spaced l.names
+abbrev pub invariant-loop-word : goal.invariant-loop-word
+invariant-loop-word l = l.text.items ++ spaced (drop l.word-index l.words) ≡ l.fn.text.items ++ spaced l.words

@@ -1,20 +1,21 @@
-use Rattle.std.proofs.Common.{◌≡◌, ◌≤◌, ◌+◌, ◌-◌, ℕ, List, [], ◌∷◌, ◌++◌, Option, Some, None, replicate, sym, ap, ◌∙◌, arith}
-use Rattle.std.proofs.lemmas.Grind.{replicate_next}
+use Rattle.std.proofs.Common.{◌≡◌, ◌∙◌, ℕ, Bool, false, List, ◌∷◌, Option, Some, None, length, replicate, suc, ap, arith, refl}
+use Rattle.std.proofs.lemmas.List.{length-replicate}
+use Rattle.tree_law.specs.declared.descriptor.Descriptor.{Descriptor}
 use Rattle.tree_law.specs.declared.node.Node.{Node}
-use Rattle.tree_law.specs.Tree.{Tree, empty_tree, empty_directory}
+use Rattle.tree_law.specs.Tree.{Tree, empty_tree, first_nodes, no_descriptors}
 use Rattle.tree_law.proofs.plain_tree.PlainTree.new.Goals as goal
 
-one_free_more : (i : ℕ) (nodes longer : List (Option Node)) → 1 ≤ i → longer ≡ nodes ++ None ∷ [] → nodes ≡ Some empty_directory ∷ replicate (i - 1) None → longer ≡ Some empty_directory ∷ replicate (i + 1 - 1) None
-one_free_more i nodes longer from pushed is =
-    let count : i + 1 - 1 ≡ (i - 1) + 1 = omega arith in
-    rw (pushed, is, count) (ap (λ (rest : List (Option Node)). Some empty_directory ∷ rest) (sym (replicate_next (i - 1) None)))
+first_count : length first_nodes ≡ 512
+unfolding first_nodes
+first_count = ap suc (length-replicate {A = Option Node} 511 None)
 
-pub loop-i-preserved : goal.loop-i-preserved
-loop-i-preserved c = one_free_more _ _ _ (omega arith) c.in_ok-push-2.ensures.items c.loop-i.invariant
+same_tree : (nodes nodes' : List (Option Node)) (tables tables' : List (List (Option Descriptor))) (purged purged' : List Bool) → nodes ≡ nodes' → tables ≡ tables' → purged ≡ purged'
+    → let tree : Tree = record { nodes = nodes; tables = tables; purged = purged } in let tree' : Tree = record { nodes = nodes'; tables = tables'; purged = purged' } in tree ≡ tree'
+same_tree nodes nodes' tables tables' purged purged' a b c = λ i. record { nodes = a i; tables = b i; purged = c i }
+
+pub invariant_of-result : goal.invariant_of-result
+invariant_of-result c = (ap length c.in_ok-nodes.ensures ∙ first_count, ap length c.in_ok-tables.ensures ∙ length-replicate 16 no_descriptors, ap length c.in_ok-purged.ensures ∙ length-replicate 16 false)
 
 pub returns : goal.returns
 unfolding empty_tree
-returns c =
-    let last : c.loop-i._i ≡ 512 = omega arith in
-    let tree : List (Option Node) → Tree = λ nodes. record { nodes = nodes } in
-    ap tree (c.loop-i.invariant ∙ ap (λ (i : ℕ). Some empty_directory ∷ replicate (i - 1) None) last)
+returns c = same_tree _ _ _ _ _ _ c.in_ok-nodes.ensures c.in_ok-tables.ensures c.in_ok-purged.ensures

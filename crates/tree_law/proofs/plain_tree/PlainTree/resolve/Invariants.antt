@@ -1,5 +1,5 @@
 use Rattle.std.proofs.Common.{◌≡◌, drop, Ok}
-use Rattle.tree_law.specs.Answer.{walked, resolved}
+use Rattle.tree_law.specs.Resolve.{walked, resolved}
 use Rattle.tree_law.proofs.plain_tree.PlainTree.resolve.Given as goal
 
 abbrev pub invariant-loop-name : goal.invariant-loop-name

@@ -1,0 +1,35 @@
+ghost use Rattle.std.specs.Prelude.{◌≡◌, ◌≢◌, ◌<◌, ◌+◌, ℕ, List, Option, Some, None, false, IfSome, if◌then◌else◌};
+ghost use Rattle.cal_base.specs.declared.identity.ClientId.{ClientId};
+ghost use Rattle.cal_base.specs.declared.identity.Ino.{Ino};
+ghost use Rattle.tree_law.specs.Tree.{Tree, descriptor_at, node_at, table_of};
+ghost use Rattle.tree_law.specs.Answer.{answer};
+ghost use Rattle.tree_law.specs.Idle.{is_idle};
+ghost use Rattle.tree_law.specs.After.{restored_node, without_client};
+ghost use Rattle.tree_law.specs.Legal.{after, tree_of};
+ghost use Rattle.tree_law.specs.Needs.{needs};
+ghost use Rattle.tree_law.specs.Part.{Part, answer_in, needs_in};
+ghost use Rattle.tree_law.specs.PartOf.{HasNeeds, IsPartOf};
+ghost use Rattle.tree_law.specs.declared.call.Call.{Call};
+ghost use Rattle.tree_law.specs.declared.entry.Entry.{Entry};
+ghost use Rattle.tree_law.specs.declared.entry.Entry.TheVariants.{Purge};
+
+/// A part of a tree answers as the whole: a reply that it gives by itself is the tree's own, and where
+/// it has all that a call needs, the needs that it shows are the tree's.
+pub fn a_part_answers_as_the_whole()
+    ensures answers { (tree : Tree) (client : ClientId) (part : Part) (call : Call) → IsPartOf tree client part → IfSome (answer_in part call) (λ reply. reply ≡ answer tree client call) }
+    ensures needs { (tree : Tree) (client : ClientId) (part : Part) (call : Call) → IsPartOf tree client part → HasNeeds part call → needs_in part call ≡ needs tree client call }
+{}
+
+/// No file without name, without descriptor and without writer stands in the tree of a history.
+pub fn no_file_is_idle()
+    ensures { (history : List Entry) (number : ℕ) → number < 512 → is_idle (tree_of history) number ≡ false }
+{}
+
+/// A purge takes away exactly that client's unflushed writes and descriptors: each file goes back to
+/// what lasts of it if the client was its writer, and is dropped if it is idle then; the descriptors of
+/// the others stay.
+pub fn a_purge_takes_one_client()
+    ensures nodes { (tree : Tree) (client : ClientId) (ino : Ino) → ino.0 < 512 → node_at (after tree (Purge client)) ino ≡ (if is_idle (without_client tree client) ino.0 then None else restored_node client (node_at tree ino)) }
+    ensures descriptors { (tree : Tree) (client : ClientId) (fd : ℕ) → descriptor_at (after tree (Purge client)) client fd ≡ None }
+    ensures others { (tree : Tree) (client other : ClientId) → other.0 ≢ client.0 → table_of (after tree (Purge client)) other ≡ table_of tree other }
+{}

@@ -2,6 +2,9 @@
 //! with the client that is missing, and one that is admitted takes it.
 #![tactic(auto)]
 
+#[cfg(test)]
+mod tests;
+
 ghost use Rattle.std.specs.Prelude.{◌≡◌};
 ghost use Rattle.admission.specs.Phase.{wait_of};
 

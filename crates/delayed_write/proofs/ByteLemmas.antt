@@ -1,7 +1,7 @@
 use Rattle.std.proofs.Common.{◌≡◌, ◌+◌, ◌-◌, ◌*◌, ◌<◌, ◌≤◌, ◌/◌, ◌%◌, ◌⊎◌, inl, inr, ℕ, zero, suc, List, ◌++◌, take, drop, replicate, length, get_or, refl, sym, ap, ◌∙◌, arith, length-append}
 use Rattle.std.proofs.lemmas.Bool.{cases_lt}
 use Rattle.std.proofs.lemmas.List.{length-take, get_or_append_left, get_or-append_right, get_or-take, get_or-drop, get_or_past, length-replicate, length-take-le, drop-replicate, take-take, take_all}
-use Rattle.delayed_write.specs.Bytes.{block_at, grown, overlaid, resized, written}
+use Rattle.file_bytes.specs.Bytes.{block_at, grown, overlaid, resized, written}
 
 -- a byte of zeros, also past them
 pub zero_byte : (n i : ℕ) → get_or (replicate {A = ℕ} n 0) i 0 ≡ 0
@@ -54,16 +54,3 @@ byte_in_block contents i =
     resized_below (drop (i / 4096 * 4096) contents) 4096 (i % 4096) (omega arith)
     ∙ get_or-drop (i / 4096 * 4096) contents (i % 4096) 0
     ∙ ap (λ (k : ℕ). get_or contents k 0) (omega arith)
-
--- bytes that are laid over zeros
-pub zeros_overlaid : (size : ℕ) (bytes : List ℕ) → length bytes ≤ size → overlaid (replicate size 0) 0 bytes ≡ resized bytes size
-zeros_overlaid size bytes within =
-    ap (λ (k : ℕ). bytes ++ drop k (replicate {A = ℕ} size 0)) (let e : 0 + length bytes ≡ length bytes = omega arith in e)
-    ∙ ap (λ (rest : List ℕ). bytes ++ rest) (drop-replicate (length bytes) size 0)
-    ∙ sym (ap (λ (front : List ℕ). front ++ replicate {A = ℕ} (size - length bytes) 0) (take_all size bytes within))
-
--- contents that are cut off before they are grown
-pub resized_front : (contents : List ℕ) (size : ℕ) → resized (take size contents) size ≡ resized contents size
-resized_front contents size =
-    ap (λ (front : List ℕ). front ++ replicate {A = ℕ} (size - length (take size contents)) 0) (take-take size size contents (omega arith))
-    ∙ ap (λ (n : ℕ). take size contents ++ replicate {A = ℕ} n 0) (let e : size - length (take size contents) ≡ size - length contents = omega (arith, length-take size contents) in e)

@@ -4,7 +4,7 @@ use Rattle.std.proofs.lemmas.List.{length_push}
 use Rattle.std.proofs.lemmas.List.Elements.{All-nil, All-push}
 use Rattle.std.proofs.lemmas.List.Sums.{count_by_more_no, count_by_more_yes}
 use Rattle.token_kind.specs.Flush.{are_rising, piece_at}
-use Rattle.delayed_write.specs.Bytes.{block_at}
+use Rattle.file_bytes.specs.Bytes.{block_at}
 use Rattle.delayed_write.specs.Delayed.{pieces_below, with_piece}
 use Rattle.delayed_write.specs.Marks.{is_marked, marked_count}
 use Rattle.delayed_write.proofs.ByteLemmas.{length-resized}

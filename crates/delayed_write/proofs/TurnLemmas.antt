@@ -5,7 +5,7 @@ use Rattle.cal_base.specs.declared.identity.Ino.{Ino}
 use Rattle.token_kind.specs.declared.hold.Hold.{Hold}
 use Rattle.token_kind.specs.Flush.{IsFlush, are_rising, block_count, byte_by, flushed_byte, kept_byte}
 use Rattle.token_kind.specs.Hold.{hold_number}
-use Rattle.delayed_write.specs.Bytes.{resized}
+use Rattle.file_bytes.specs.Bytes.{resized}
 use Rattle.delayed_write.specs.Marks.{is_marked, marked_by_shrink, marked_by_truncate, marked_by_write, marked_count}
 use Rattle.delayed_write.specs.Delayed.{Delayed, IsDelayed, Turns, after_truncate, after_write, clean, flush_of, pieces_below, pieces_of}
 use Rattle.delayed_write.proofs.MarkLemmas.{shrink_below, truncate_keeps, truncate_shrinks, unmarked, unmarked_by_shrink, unmarked_by_write}

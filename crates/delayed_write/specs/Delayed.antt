@@ -3,7 +3,7 @@ use Rattle.cal_base.specs.declared.identity.Ino.{Ino}
 use Rattle.token_kind.specs.declared.flush.Flush.{Flush}
 use Rattle.token_kind.specs.declared.hold.Hold.{Hold}
 use Rattle.token_kind.specs.Flush.{IsFlushed, block_count}
-use Rattle.delayed_write.specs.Bytes.{block_at, resized, written}
+use Rattle.file_bytes.specs.Bytes.{block_at, resized, written}
 use Rattle.delayed_write.specs.Marks.{is_marked, marked_by_truncate, marked_by_write, marked_count, no_marks}
 
 -- a file as a client sees it: its present bytes, the blocks whose bytes the server hasn't got, the least

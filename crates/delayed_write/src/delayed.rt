@@ -1,12 +1,12 @@
 ghost use Rattle.std.specs.Prelude.{◌≡◌, ◌≤◌, ◌<◌, ◌+◌, ℕ, List, false, IfOk, OnOk, OnErr, length};
 ghost use Rattle.token_kind.specs.Flush.{IsFlush, IsFlushed};
 ghost use Rattle.token_kind.specs.Hold.{hold_number};
-ghost use Rattle.delayed_write.specs.Bytes.{read_at};
+ghost use Rattle.file_bytes.specs.Bytes.{read_at};
 ghost use Rattle.delayed_write.specs.Marks.{marked_by_truncate, marked_by_write, marked_count};
 ghost use Rattle.delayed_write.specs.Delayed.{Turns, after_truncate, after_write, clean, flush_of};
 
 use crate::pieces::pieces;
-use crate::{bytes, marks};
+use crate::marks;
 use cal_base::{Blob, FILE_BLOCKS, Ino, Oom};
 use std::marker::Model;
 use token_kind::{Flush, Hold};
@@ -70,7 +70,7 @@ impl Delayed {
     pub fn read(&self, offset: u32, len: u32) -> Result<Blob, Oom>
         ensures { IfOk result (λ bytes. bytes ≡ read_at self.now.contents offset len) }
     {
-        bytes::read(
+        file_bytes::read(
             *self.contents.allocator(),
             &self.contents,
             offset as usize,
@@ -89,7 +89,7 @@ impl Delayed {
         ensures turns { OnOk result ((kept : List ℕ) → Turns kept self.old → Turns kept self.new) }
         ensures err { OnErr result (self.new ≡ self.old) }
     {
-        bytes::write(&mut self.contents, offset as usize, bytes)?;
+        file_bytes::write(&mut self.contents, offset as usize, bytes)?;
         marks::mark_write(&mut self.marks, offset as usize, bytes.len());
         self.unflushed = true;
         Ok(())
@@ -105,7 +105,7 @@ impl Delayed {
         ensures err { OnErr result (self.new ≡ self.old) }
     {
         let old = self.contents.len();
-        bytes::resize(&mut self.contents, size as usize)?;
+        file_bytes::resize(&mut self.contents, size as usize)?;
         marks::mark_truncate(&mut self.marks, old, size as usize);
         self.cut = self.cut.min(size);
         self.unflushed = true;

@@ -3,7 +3,6 @@
 //! size since the last flush, and turns what the server keeps into the present bytes.
 #![tactic(auto)]
 
-mod bytes;
 mod delayed;
 mod law;
 mod marks;

@@ -1,7 +1,7 @@
 ghost use Rattle.std.specs.Prelude.{◌≡◌, ◌<◌, IfOk, OnOk};
 ghost use Rattle.delayed_write.specs.Delayed.{pieces_below, with_piece};
 
-use crate::bytes::block;
+use file_bytes::block;
 use cal_base::{FILE_BLOCKS, Oom, Sector};
 use std::alloc::Global;
 use token_kind::PieceList;

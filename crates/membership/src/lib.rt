@@ -6,6 +6,8 @@
 mod members;
 mod not_so;
 mod standing;
+#[cfg(test)]
+mod tests;
 
 pub use members::Members;
 pub use not_so::NotSo;

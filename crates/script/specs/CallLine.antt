@@ -18,11 +18,27 @@ use Rattle.script.specs.declared.call_name.FileCall.TheVariants.{Closes, Syncs}
 
 -- the call on one path that a word names, or what follows
 abbrev pub path_call_or : List ℕ → Result CallName BadWhy → Result CallName BadWhy
-path_call_or word other = if bytes_eq word (codes "create") then Ok (OnPath Creates) else if bytes_eq word (codes "mkdir") then Ok (OnPath Makes) else if bytes_eq word (codes "unlink") then Ok (OnPath Unlinks) else if bytes_eq word (codes "rmdir") then Ok (OnPath Removes) else if bytes_eq word (codes "stat") then Ok (OnPath Stats) else if bytes_eq word (codes "readdir") then Ok (OnPath Lists) else other
+path_call_or word other =
+    if bytes_eq word (codes "create") then Ok (OnPath Creates)
+    else if bytes_eq word (codes "mkdir") then Ok (OnPath Makes)
+    else if bytes_eq word (codes "unlink") then Ok (OnPath Unlinks)
+    else if bytes_eq word (codes "rmdir") then Ok (OnPath Removes)
+    else if bytes_eq word (codes "stat") then Ok (OnPath Stats)
+    else if bytes_eq word (codes "readdir") then Ok (OnPath Lists)
+    else other
 
 -- any other call that a word names
 abbrev pub other_call : List ℕ → Result CallName BadWhy
-other_call word = if bytes_eq word (codes "rename") then Ok Renames else if bytes_eq word (codes "open") then Ok Opens else if bytes_eq word (codes "close") then Ok (OnFile Closes) else if bytes_eq word (codes "fsync") then Ok (OnFile Syncs) else if bytes_eq word (codes "read") then Ok Reads else if bytes_eq word (codes "write") then Ok Writes else if bytes_eq word (codes "fill") then Ok Fills else if bytes_eq word (codes "truncate") then Ok Truncates else Err Word
+other_call word =
+    if bytes_eq word (codes "rename") then Ok Renames
+    else if bytes_eq word (codes "open") then Ok Opens
+    else if bytes_eq word (codes "close") then Ok (OnFile Closes)
+    else if bytes_eq word (codes "fsync") then Ok (OnFile Syncs)
+    else if bytes_eq word (codes "read") then Ok Reads
+    else if bytes_eq word (codes "write") then Ok Writes
+    else if bytes_eq word (codes "fill") then Ok Fills
+    else if bytes_eq word (codes "truncate") then Ok Truncates
+    else Err Word
 
 -- the call that a word names
 abbrev pub call_name : List ℕ → Result CallName BadWhy

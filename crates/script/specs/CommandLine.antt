@@ -28,11 +28,26 @@ use Rattle.script.specs.declared.script.Said.TheVariants.{Nothing, Clients, Wind
 
 -- the command on packets or nodes that a word names, or what follows
 abbrev pub first_commands_or : List ℕ → Result Command BadWhy → Result Command BadWhy
-first_commands_or word other = if bytes_eq word (codes "deliver") then Ok (OnPacket Delivers) else if bytes_eq word (codes "drop") then Ok (OnPacket Drops) else if bytes_eq word (codes "pass") then Ok (OnPair Passes) else if bytes_eq word (codes "cut") then Ok (OnPair Cuts) else if bytes_eq word (codes "mend") then Ok (OnPair Mends) else if bytes_eq word (codes "tick") then Ok (OnNode Ticks) else if bytes_eq word (codes "crash") then Ok (OnNode Crashes) else other
+first_commands_or word other =
+    if bytes_eq word (codes "deliver") then Ok (OnPacket Delivers)
+    else if bytes_eq word (codes "drop") then Ok (OnPacket Drops)
+    else if bytes_eq word (codes "pass") then Ok (OnPair Passes)
+    else if bytes_eq word (codes "cut") then Ok (OnPair Cuts)
+    else if bytes_eq word (codes "mend") then Ok (OnPair Mends)
+    else if bytes_eq word (codes "tick") then Ok (OnNode Ticks)
+    else if bytes_eq word (codes "crash") then Ok (OnNode Crashes)
+    else other
 
 -- any other command that a word names; `window` stands in line 2 alone
 abbrev pub other_command : ℕ → List ℕ → Result Command BadWhy
-other_command number word = if bytes_eq word (codes "gone") then Ok Declares else if bytes_eq word (codes "view") then Ok Moves else if bytes_eq word (codes "writeback") then Ok WritesBack else if bytes_eq word (codes "stop") then Ok Stops else if bytes_eq word (codes "settle") then Ok Settles else if bytes_eq word (codes "window") then (if number == 2 then Ok Windows else Err Word) else Err Word
+other_command number word =
+    if bytes_eq word (codes "gone") then Ok Declares
+    else if bytes_eq word (codes "view") then Ok Moves
+    else if bytes_eq word (codes "writeback") then Ok WritesBack
+    else if bytes_eq word (codes "stop") then Ok Stops
+    else if bytes_eq word (codes "settle") then Ok Settles
+    else if bytes_eq word (codes "window") then (if number == 2 then Ok Windows else Err Word)
+    else Err Word
 
 -- the command that a word names in the line of this number
 abbrev pub command_in : ℕ → List ℕ → Result Command BadWhy

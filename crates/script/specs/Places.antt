@@ -60,4 +60,8 @@ node_in word = node_or (client_in word) (server_in word)
 
 -- `r`, `w` or `rw`
 abbrev pub mode_in : List ℕ → Result Mode BadWhy
-mode_in word = if bytes_eq word (codes "r") then Ok R else if bytes_eq word (codes "w") then Ok W else if bytes_eq word (codes "rw") then Ok Rw else Err Word
+mode_in word =
+    if bytes_eq word (codes "r") then Ok R
+    else if bytes_eq word (codes "w") then Ok W
+    else if bytes_eq word (codes "rw") then Ok Rw
+    else Err Word

@@ -17,7 +17,12 @@ is_plain byte = nat_le 32 byte && nat_le byte 126
 
 -- within the script's bytes and lines, and the line's bytes; plain bytes alone
 abbrev pub fits : NumberedLine → Result (Unit {0}) BadWhy
-fits line = if nat_lt 67108864 line.through then Err Big else if nat_lt 65536 line.number then Err Many else if nat_lt 70000 (length line.text) then Err Long else if list_all is_plain line.text then Ok tt else Err Byte
+fits line =
+    if nat_lt 67108864 line.through then Err Big
+    else if nat_lt 65536 line.number then Err Many
+    else if nat_lt 70000 (length line.text) then Err Long
+    else if list_all is_plain line.text then Ok tt
+    else Err Byte
 
 -- the first byte is `#`
 abbrev pub is_comment : List ℕ → Bool

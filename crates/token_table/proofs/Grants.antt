@@ -11,7 +11,7 @@ use Rattle.token_kind.specs.declared.blocker.Blocker.{Blocker}
 use Rattle.token_kind.specs.declared.hold.Hold.{Hold}
 use Rattle.token_kind.specs.declared.hold.Hold.TheVariants.{None as Nothing, Read, Write}
 use Rattle.token_kind.specs.declared.token.Token.{Token}
-use Rattle.token_table.specs.Blockers.{blocker_of, blockers_of, clients_below, asked_for}
+use Rattle.token_table.specs.Blockers.{blocks, blocker_of, blockers_of, clients_below, asked_for}
 use Rattle.token_table.specs.Changes.{Sets}
 use Rattle.token_table.specs.declared.hold_key.HoldKey.{HoldKey}
 use Rattle.token_table.specs.Table.{Table, IsTable, IsGrantable, key_of, same_key, same_client, held_of, is_held}
@@ -68,6 +68,14 @@ module _ (t : Table) (table : IsTable t) (c : ClientId) where
       by (inl lt) = no_conflict need d ne (nothing_of_client (blocker_of t c need) 16 d.0 none lt)
       by (inr ge) = no_member need d ge (held_of t d need.ino need.«class») refl
 
+  -- a need that no client of the cluster blocks may be granted
+  pub grantable_from_free : (need : Token) → ((k : ℕ) → k < 16 → blocks t c need (record { 0 = k }) ≡ false) → IsGrantable t c need
+  grantable_from_free need free d ne = by (cases_lt d.0 16)
+    where
+      by : (d.0 < 16) ⊎ (16 ≤ d.0) → conflict need.hold (held_of t d need.ino need.«class») ≡ false
+      by (inl lt) = sym (ap (λ (s : Bool). not s && conflict need.hold (held_of t d need.ino need.«class»)) ne) ∙ free d.0 lt
+      by (inr ge) = no_member need d ge (held_of t d need.ino need.«class») refl
+
   -- and so may all needs that have none
   pub all_grantable : (needs : List Token) → blockers_of t c needs ≡ [] → All (IsGrantable t c) needs
   all_grantable [] none = λ k d lt. absurd (omega arith)
@@ -84,3 +92,11 @@ grantable_after old new c ino cls hold token sets before d ne = rw (sets.holds (
         let one : key_of c ino cls ≡ key_of d token.ino token.«class» = same_key-true (key_of c ino cls) (key_of d token.ino token.«class») e in
         absurd (true≢false (sym (same_client-refl c) ∙ ap (λ (k : HoldKey). same_client c k.client) one ∙ ne))
     by false e = before d ne
+
+-- what may be granted is blocked by no client
+pub free_from_grantable : (t : Table) (c : ClientId) (need : Token) (d : ClientId) → IsGrantable t c need → blocks t c need d ≡ false
+free_from_grantable t c need d may = by (same_client c d) refl
+  where
+    by : (b : Bool) → same_client c d ≡ b → blocks t c need d ≡ false
+    by true e = rw e refl
+    by false e = rw e (may d e)

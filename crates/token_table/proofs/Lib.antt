@@ -8,3 +8,4 @@ pub mod Lists
 pub mod Opened
 pub mod Order
 pub mod Writes
+pub mod Series

@@ -1,9 +1,9 @@
-use Rattle.std.proofs.Common.{◌≡◌, ℕ, ◌+◌, List, [], ◌∷◌, ◌++◌, take, slice_get, Option, Some, None, refl, sym, ap, ◌∙◌, append_assoc, append-nil, add-one}
+use Rattle.std.proofs.Common.{◌≡◌, ℕ, ◌+◌, ◌<◌, Bool, length, get_or, filter, if◌then◌else◌, List, [], ◌∷◌, ◌++◌, take, slice_get, Option, Some, None, refl, sym, ap, ◌∙◌, append_assoc, append-nil, add-one}
 use Rattle.std.specs.List.{filter_map}
 use Rattle.std.specs.Option.{option_to_list}
 use Rattle.std.proofs.lemmas.Option.{get_or_from_slice_get, slice_get_within}
 use Rattle.std.proofs.lemmas.List.{take_more}
-use Rattle.std.proofs.lemmas.List.Elements.{filter_map-append}
+use Rattle.std.proofs.lemmas.List.Elements.{filter_map-append, filter-append}
 use Rattle.cal_base.specs.declared.identity.ClientId.{ClientId}
 use Rattle.token_table.specs.Blockers.{clients_below}
 
@@ -48,3 +48,11 @@ module _ {Y : Type 0} (f : ClientId → Option Y) where
       step ∙ ap (λ ys. ys ++ option_to_list (f (record { 0 = n }))) e
       ∙ append_assoc out (filter_map f (clients_below n)) (option_to_list (f (record { 0 = n })))
       ∙ ap (λ ys. out ++ ys) (sym (filter_map-push f (clients_below n) (record { 0 = n })) ∙ ap (filter_map f) (sym (clients_below-more n)))
+
+-- what a filter leaves of one item more, behind others
+pub filters_next : {X : Type 0} (p : X → Bool) (xs : List X) (i : ℕ) (d : X) (base old new : List X) (b : Bool) → i < length xs → old ≡ base ++ filter p (take i xs)
+    → b ≡ p (get_or xs i d) → new ≡ old ++ (if b then get_or xs i d ∷ [] else []) → new ≡ base ++ filter p (take (i + 1) xs)
+filters_next p xs i d base old new b within e test step =
+    step ∙ ap (λ ys. ys ++ (if b then get_or xs i d ∷ [] else [])) e ∙ ap (λ (s : Bool). (base ++ filter p (take i xs)) ++ (if s then get_or xs i d ∷ [] else [])) test
+    ∙ append_assoc base (filter p (take i xs)) (filter p (get_or xs i d ∷ []))
+    ∙ ap (λ ys. base ++ ys) (sym (filter-append p (take i xs) (get_or xs i d ∷ [])) ∙ ap (filter p) (sym (take_more xs i d within)))

@@ -30,6 +30,10 @@ asked_for Nothing = Nothing
 asked_for Read = Read
 asked_for Write = Nothing
 
+-- client d has a hold that is in the way of what client c needs
+abbrev pub blocks : Table → ClientId → Token → ClientId → Bool
+blocks t c need d = not (same_client c d) && conflict need.hold (held_of t d need.ino need.«class»)
+
 -- the hold of client d, where it is in the way of what client c needs
 abbrev pub blocker_of : Table → ClientId → Token → ClientId → Option Blocker
 blocker_of t c need d =

@@ -1,3 +1,4 @@
 pub mod Table
 pub mod Blockers
 pub mod Changes
+pub mod Series

@@ -3,12 +3,14 @@
 //! granted the writing of files.
 #![tactic(auto)]
 
+mod gather;
 mod hold_key;
 mod hold_map;
 mod is_held;
-mod put_item;
 #[cfg(test)]
 mod tests;
 mod token_table;
 
+pub use gather::put_item;
+pub use hold_key::HoldKey;
 pub use token_table::TokenTable;

@@ -1,4 +1,4 @@
-ghost use Rattle.std.specs.Prelude.{◌≡◌, ◌<◌, ◌≤◌, ◌++◌, [], ℕ, false, length, min, OnOk, OnErr, IfOk, IfSome, IsNone, IsSome, All, Contains, slice_get, true};
+ghost use Rattle.std.specs.Prelude.{◌≡◌, ◌<◌, ◌≤◌, ◌++◌, [], ℕ, false, length, min, OnOk, OnErr, IfOk, IfSome, IsNone, IsSome, IsTrue, ◌↔◌, All, Contains, slice_get, true};
 ghost use Rattle.std.specs.List.{filter_map};
 ghost use Rattle.token_kind.specs.Hold.{conflict, lesser_of};
 ghost use Rattle.token_kind.specs.declared.hold.Hold.TheVariants.{Write};
@@ -7,11 +7,12 @@ ghost use Rattle.cal_base.specs.declared.identity.ClientId.{ClientId};
 ghost use Rattle.cal_base.specs.declared.identity.Ino.{Ino};
 ghost use Rattle.token_table.specs.Table.{held_of, IsGrantable, is_held, same_client, IsTable, is_data_write};
 ghost use Rattle.token_table.specs.Changes.{Sets, Drops};
+ghost use Rattle.token_table.specs.Series.{Same, with_holds, put_last};
 ghost use Rattle.token_table.specs.Blockers.{blocker_of, blockers_of, toucher_of, touchers_of, clients_below, asked_for, IsOpened};
 
+use crate::gather::put_item;
 use crate::hold_map::HoldMap;
 use crate::is_held::is_held;
-use crate::put_item::put_item;
 use cal_base::{CLIENTS, ClientId, INODES, Ino, Items, Oom};
 use std::alloc::Global;
 use std::marker::Model;
@@ -65,6 +66,30 @@ impl TokenTable {
     {
         self.map.set(c, t.ino, t.class, t.hold)?;
         Ok(())
+    }
+
+    /// Sets holds of the client, one after the other. No other client may have a hold that conflicts with
+    /// one of them. The client's Data Write holds are then the last granted: those that it had, in their
+    /// order, and then the others in the order of the tokens.
+    ///
+    /// # Errors
+    /// After want of memory the table is as it was.
+    pub fn grant_all(&mut self, c: ClientId, tokens: &[Token]) -> Result<(), Oom>
+        requires apart { All (IsGrantable self.old c) tokens.now }
+        requires client { c.0 < CLIENTS }
+        requires inodes { All (λ token. token.ino.0 < INODES) tokens.now }
+        ensures ok { OnOk result (Same self.new (with_holds (put_last self.old c) c tokens.now)) }
+        ensures err { OnErr result (self.new ≡ self.old) }
+    {
+        self.map.set_all(c, tokens)?;
+        Ok(())
+    }
+
+    /// Whether no other client has a hold that conflicts with the token. It takes no memory.
+    pub fn is_grantable(&self, c: ClientId, t: Token) -> bool
+        ensures { IsTrue result ↔ IsGrantable self.now c t }
+    {
+        self.map.is_free(c, t)
     }
 
     /// Lowers the client's hold to the lesser of what it is and `to`.

@@ -50,15 +50,15 @@ idle_emptied tree m = ap (λ (node : Option Node). is_flushed_file node && not (
 -- once a number was looked at, nothing idle stands there; elsewhere it is as before
 pub dropped_here : (tree : Tree) (m : ℕ) → is_idle (dropped tree m) m ≡ false
 dropped_here tree m = elim (is_idle tree m) as (λ b. is_idle tree m ≡ b → is_idle (if b then with_node tree m None else tree) m ≡ false) [
-    | true ↦ λ e. idle_emptied tree m
-    | false ↦ λ e. e
-  ] refl
+  | true ↦ λ e. idle_emptied tree m
+  | false ↦ λ e. e
+] refl
 
 pub dropped_other : (tree : Tree) (m k : ℕ) → k ≢ m → is_idle (dropped tree m) k ≡ is_idle tree k
 dropped_other tree m k apart = elim (is_idle tree m) as (λ b. is_idle tree m ≡ b → is_idle (if b then with_node tree m None else tree) k ≡ is_idle tree k) [
-    | true ↦ λ e. idle_other tree m k e apart
-    | false ↦ λ e. refl
-  ] refl
+  | true ↦ λ e. idle_other tree m k e apart
+  | false ↦ λ e. refl
+] refl
 
 below_zero : (tree : Tree) → swept_below tree 0 ≡ tree
 unfolding swept_below
@@ -86,15 +86,15 @@ swept_clean tree (suc n) k below =
 
 dropped_node_here : (tree : Tree) (m : ℕ) → node_of (dropped tree m) m ≡ (if is_idle tree m then None else node_of tree m)
 dropped_node_here tree m = elim (is_idle tree m) as (λ b. node_of (if b then with_node tree m None else tree) m ≡ (if b then None else node_of tree m)) [
-    | true ↦ emptied tree.nodes m
-    | false ↦ refl
-  ]
+  | true ↦ emptied tree.nodes m
+  | false ↦ refl
+]
 
 dropped_node_other : (tree : Tree) (m k : ℕ) → k ≢ m → node_of (dropped tree m) k ≡ node_of tree k
 dropped_node_other tree m k apart = elim (is_idle tree m) as (λ b. node_of (if b then with_node tree m None else tree) k ≡ node_of tree k) [
-    | true ↦ get_or-set_other tree.nodes m k None None apart
-    | false ↦ refl
-  ]
+  | true ↦ get_or-set_other tree.nodes m k None None apart
+  | false ↦ refl
+]
 
 swept_node_above : (tree : Tree) (n k : ℕ) → n ≤ k → node_of (swept_below tree n) k ≡ node_of tree k
 swept_node_above tree zero k above = ap (λ (t : Tree). node_of t k) (below_zero tree)
@@ -108,9 +108,9 @@ swept_node tree zero k below = absurd (omega arith)
 swept_node tree (suc n) k below =
     ap (λ (t : Tree). node_of t k) (below_suc tree n) ∙ elim (cases_eq k n) [
       | inl same ↦ subst (λ (m : ℕ). node_of (dropped (swept_below tree n) n) m ≡ (if is_idle tree m then None else node_of tree m)) (sym same)
-        (dropped_node_here (swept_below tree n) n
-        ∙ ap (λ (b : Bool). if b then None else node_of (swept_below tree n) n) (swept_above tree n n (omega arith))
-        ∙ ap (λ (node : Option Node). if is_idle tree n then None else node) (swept_node_above tree n n (omega arith)))
+          (dropped_node_here (swept_below tree n) n
+          ∙ ap (λ (b : Bool). if b then None else node_of (swept_below tree n) n) (swept_above tree n n (omega arith))
+          ∙ ap (λ (node : Option Node). if is_idle tree n then None else node) (swept_node_above tree n n (omega arith)))
       | inr apart ↦ dropped_node_other (swept_below tree n) n k apart ∙ swept_node tree n k (omega arith)
     ]
 

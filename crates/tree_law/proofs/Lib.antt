@@ -1,3 +1,5 @@
+pub mod Answering
+pub mod ByteLemmas
 pub mod DirectoryNames
 pub mod Histories
 pub mod IdleLemmas

@@ -6,7 +6,7 @@ use Rattle.cal_base.specs.declared.directory_entry.EntryKind.{EntryKind}
 use Rattle.cal_base.specs.declared.directory_entry.EntryKind.TheVariants.{File as IsFile, Directory as IsDirectory}
 use Rattle.cal_base.specs.declared.identity.ClientId.{ClientId}
 use Rattle.cal_base.specs.declared.identity.Ino.{Ino}
-use Rattle.tree_law.specs.Bytes.{read_at}
+use Rattle.file_bytes.specs.Bytes.{read_at}
 use Rattle.tree_law.specs.Names.{Names}
 use Rattle.tree_law.specs.Tree.{Tree, node_at, contents_of, table_of, least_unused, descriptor_at}
 use Rattle.tree_law.specs.Resolve.{resolved, judged, as_file}
@@ -95,7 +95,7 @@ read_same : (tree : Tree) (part : Part) (offset count : ℕ) → ((ino : Ino) (b
 read_same tree part offset count has None files = refl
 read_same tree part offset count has (Some descriptor) files =
     let told : Gives (bytes_in part offset count (Ok descriptor.ino)) (told_at (bytes_of offset count) tree (Ok descriptor.ino)) =
-      bytes_same part descriptor.ino offset count (node_at tree descriptor.ino) (files descriptor refl) (has descriptor.ino) in
+    bytes_same part descriptor.ino offset count (node_at tree descriptor.ino) (files descriptor refl) (has descriptor.ino) in
     elim (reads descriptor.mode) as (λ b. Gives (bytes_in part offset count (if b then Ok descriptor.ino else Err BadF)) (told_at (bytes_of offset count) tree (if b then Ok descriptor.ino else Err BadF))) [
       | true ↦ told
       | false ↦ refl

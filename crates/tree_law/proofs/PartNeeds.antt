@@ -72,9 +72,9 @@ walk_same tree client part is (name ∷ names) (Some (Ok place)) there agrees so
     let rest : List Need = walk_needs_in part (looked_up_in part place.0 place.1 name) names in
     let step = look_step part place.0 place.1 name rest has in
     let more = walk_same tree client part is names (looked_up_in part place.0 place.1 name) (looked_up (node_at tree place.0) name)
-      (agrees_look tree part place.0 place.1 (node_at tree place.0) name agrees.kind (is.entries place.0)) step.0 step.1 in
+    (agrees_look tree part place.0 place.1 (node_at tree place.0) name agrees.kind (is.entries place.0)) step.0 step.1 in
     let same : look_needs_in place.0 place.1 ++ rest ≡ walk_needs tree (Ok place.0) (name ∷ names) =
-      λ i. look_same place.0 place.1 (node_at tree place.0) agrees.kind i ++ more.0 i in
+    λ i. look_same place.0 place.1 (node_at tree place.0) agrees.kind i ++ more.0 i in
     (same ∙ ap (λ (r : Result Ino Why). walk_needs tree r (name ∷ names)) (sym agrees.same), more.1)
 
 end_same : (tree : Tree) (needs_part : Ino → EntryKind → List Need) (needs_tree : Option Node → Ino → List Need)

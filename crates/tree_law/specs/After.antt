@@ -3,7 +3,7 @@ use Rattle.std.specs.Prelude.{◌+◌, ℕ, true, List, [], ◌∷◌, length, m
 use Rattle.std.specs.FinMap as finite
 use Rattle.cal_base.specs.declared.identity.ClientId.{ClientId}
 use Rattle.cal_base.specs.declared.identity.Ino.{Ino}
-use Rattle.tree_law.specs.Bytes.{resized, written}
+use Rattle.file_bytes.specs.Bytes.{resized, written}
 use Rattle.tree_law.specs.FileState.{changed_file, flushed_file, restored_file}
 use Rattle.tree_law.specs.Tree.{Tree, node_at, table_of, least_unused, no_descriptors, empty_directory, empty_file}
 use Rattle.tree_law.specs.Resolve.{new_place, file_named, removable, parent_of, last_of}

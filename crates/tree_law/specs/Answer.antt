@@ -3,7 +3,7 @@ use Rattle.std.specs.Prelude.{◌+◌, ℕ, List, length, Option, Some, None, Re
 use Rattle.std.specs.FinMap as map
 use Rattle.cal_base.specs.declared.identity.ClientId.{ClientId}
 use Rattle.cal_base.specs.declared.identity.Ino.{Ino}
-use Rattle.tree_law.specs.Bytes.{read_at}
+use Rattle.file_bytes.specs.Bytes.{read_at}
 use Rattle.tree_law.specs.Tree.{Tree, node_at, contents_of, table_of, least_unused}
 use Rattle.tree_law.specs.Resolve.{resolved, new_place, file_named, removable}
 use Rattle.tree_law.specs.Rename.{move_of}

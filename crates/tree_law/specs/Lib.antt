@@ -1,6 +1,5 @@
 pub mod After
 pub mod Answer
-pub mod Bytes
 pub mod Descriptors
 pub mod FileState
 pub mod Idle

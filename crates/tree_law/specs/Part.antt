@@ -6,7 +6,7 @@ use Rattle.cal_base.specs.declared.directory_entry.EntryKind.{EntryKind}
 use Rattle.cal_base.specs.declared.directory_entry.EntryKind.TheVariants.{File as IsFile, Directory as IsDirectory}
 use Rattle.cal_base.specs.declared.identity.Ino.{Ino}
 use Rattle.std.specs.Cmp.Lexicographic.{pointwise}
-use Rattle.tree_law.specs.Bytes.{read_at}
+use Rattle.file_bytes.specs.Bytes.{read_at}
 use Rattle.tree_law.specs.Tree.{root, least_unused}
 use Rattle.tree_law.specs.Descriptors.{opened, readable, writable, within_limit}
 use Rattle.tree_law.specs.Answer.{made, counted}

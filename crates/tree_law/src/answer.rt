@@ -50,7 +50,13 @@ impl PlainTree {
     }
 
     /// The bytes of a file from an offset on, at most so many.
-    fn read(&self, alloc: Global, file: Result<Ino, Why>, offset: u64, len: u32) -> Result<Reply, Oom>
+    fn read(
+        &self,
+        alloc: Global,
+        file: Result<Ino, Why>,
+        offset: u64,
+        len: u32,
+    ) -> Result<Reply, Oom>
         ensures { IfOk result (λ reply. reply ≡ told_at (bytes_of offset len) self.now file) }
     {
         match file {

@@ -1,6 +1,6 @@
 ghost use Rattle.std.specs.Prelude.{◌≡◌, ◌+◌, OnOk, OnErr, Ok, None, length};
 ghost use Rattle.tree_law.specs.Tree.{node_at, table_of, least_unused, empty_directory, empty_file};
-ghost use Rattle.tree_law.specs.Bytes.{resized, written};
+ghost use Rattle.file_bytes.specs.Bytes.{resized, written};
 ghost use Rattle.tree_law.specs.Resolve.{last_of, new_place, file_named, removable, parent_of};
 ghost use Rattle.tree_law.specs.Rename.{move_of};
 ghost use Rattle.tree_law.specs.Descriptors.{writable, within_limit};

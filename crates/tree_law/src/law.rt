@@ -1,16 +1,18 @@
-ghost use Rattle.std.specs.Prelude.{◌≡◌, ◌≢◌, ◌<◌, ◌+◌, ℕ, List, Option, Some, None, false, IfSome, if◌then◌else◌};
+ghost use Rattle.std.specs.Prelude.{◌≡◌, ◌≢◌, ◌<◌, ◌≤◌, ℕ, List, length, slice_index, Option, None, false, IfSome, if◌then◌else◌};
 ghost use Rattle.cal_base.specs.declared.identity.ClientId.{ClientId};
 ghost use Rattle.cal_base.specs.declared.identity.Ino.{Ino};
+ghost use Rattle.file_bytes.specs.Bytes.{read_at, written};
 ghost use Rattle.tree_law.specs.Tree.{Tree, descriptor_at, node_at, table_of};
 ghost use Rattle.tree_law.specs.Answer.{answer};
 ghost use Rattle.tree_law.specs.Idle.{is_idle};
 ghost use Rattle.tree_law.specs.After.{restored_node, without_client};
-ghost use Rattle.tree_law.specs.Legal.{after, tree_of};
+ghost use Rattle.tree_law.specs.Legal.{IsNextCall, IsWantOfRoom, after, tree_of};
 ghost use Rattle.tree_law.specs.Needs.{needs};
 ghost use Rattle.tree_law.specs.Part.{Part, answer_in, needs_in};
 ghost use Rattle.tree_law.specs.PartOf.{HasNeeds, IsPartOf};
 ghost use Rattle.tree_law.specs.declared.call.Call.{Call};
 ghost use Rattle.tree_law.specs.declared.entry.Entry.{Entry};
+ghost use Rattle.tree_law.specs.declared.reply.Reply.{Reply};
 ghost use Rattle.tree_law.specs.declared.entry.Entry.TheVariants.{Purge};
 
 /// A part of a tree answers as the whole: a reply that it gives by itself is the tree's own, and where
@@ -32,4 +34,15 @@ pub fn a_purge_takes_one_client()
     ensures nodes { (tree : Tree) (client : ClientId) (ino : Ino) → ino.0 < 512 → node_at (after tree (Purge client)) ino ≡ (if is_idle (without_client tree client) ino.0 then None else restored_node client (node_at tree ino)) }
     ensures descriptors { (tree : Tree) (client : ClientId) (fd : ℕ) → descriptor_at (after tree (Purge client)) client fd ≡ None }
     ensures others { (tree : Tree) (client other : ClientId) → other.0 ≢ client.0 → table_of (after tree (Purge client)) other ≡ table_of tree other }
+{}
+
+/// The tree determines a call's reply, but for want of an inode or of blocks.
+pub fn one_answer()
+    ensures { (tree : Tree) (client : ClientId) (call : Call) (reply : Reply) (new : Option Ino) → IsNextCall tree client call reply new → ¬ (IsWantOfRoom tree client call reply) → reply ≡ answer tree client call }
+{}
+
+/// What was written is read back, and a gap before it reads as zeros.
+pub fn a_write_is_read_back()
+    ensures back { (contents : List ℕ) (offset : ℕ) (bytes : List ℕ) → read_at (written contents offset bytes) offset (length bytes) ≡ bytes }
+    ensures gap { (contents : List ℕ) (offset : ℕ) (bytes : List ℕ) (i : ℕ) → length contents ≤ i → i < offset → slice_index (written contents offset bytes) i ≡ 0 }
 {}

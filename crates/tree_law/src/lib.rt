@@ -5,7 +5,6 @@
 
 mod answer;
 mod apply;
-mod bytes;
 mod call;
 mod change;
 mod descriptor;
@@ -32,7 +31,10 @@ pub use call::Call;
 pub use descriptor::{Descriptor, DescriptorTable};
 pub use directory::Directory;
 pub use entry::Entry;
-pub use law::{a_part_answers_as_the_whole, a_purge_takes_one_client, no_file_is_idle};
+pub use law::{
+    a_part_answers_as_the_whole, a_purge_takes_one_client, a_write_is_read_back, no_file_is_idle,
+    one_answer,
+};
 pub use mode::Mode;
 pub use node::Node;
 pub use path::{Path, ReadPathError, read_path};

@@ -51,7 +51,13 @@ impl PlainTree {
     }
 
     /// The file that a write makes reach at least to this end, or EBADF or EFBIG.
-    pub(crate) fn write_place(&self, client: ClientId, fd: u8, offset: u64, len: usize) -> Result<Ino, Why>
+    pub(crate) fn write_place(
+        &self,
+        client: ClientId,
+        fd: u8,
+        offset: u64,
+        len: usize,
+    ) -> Result<Ino, Why>
         ensures { result ≡ within_limit (offset + len) (writable (table_of self.now client) fd) }
     {
         match self.writable(client, fd) {

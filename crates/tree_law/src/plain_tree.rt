@@ -1,7 +1,7 @@
 ghost use Rattle.std.specs.Prelude.{◌≡◌, ◌+◌, ◌≤◌, Option, Some, None, Ok, false, length, map, replicate, IfOk, IfSome, IfNone, OnOk, OnErr, IsTrue, ◌↔◌};
 ghost use Rattle.std.specs.Option.{option_copied};
 ghost use Rattle.tree_law.specs.Tree.{Tree, empty_tree, first_nodes, no_descriptors, node_at, table_of, descriptor_at, least_unused, is_purged, IsFree, IsLeastFree, IsFull};
-ghost use Rattle.tree_law.specs.Bytes.{resized, written};
+ghost use Rattle.file_bytes.specs.Bytes.{resized, written};
 ghost use Rattle.tree_law.specs.Idle.{is_named, is_open, with_node};
 ghost use Rattle.tree_law.specs.After.{put_name, take_name, with_name, without_name, with_descriptor, with_bytes, changed_node, flushed_node, restored_node, without_client};
 
@@ -166,19 +166,36 @@ impl PlainTree {
     }
 
     /// Lays bytes over those of a file.
-    pub(crate) fn write_node(&mut self, ino: Ino, client: ClientId, offset: usize, bytes: &[u8]) -> Result<(), Oom>
+    pub(crate) fn write_node(
+        &mut self,
+        ino: Ino,
+        client: ClientId,
+        offset: usize,
+        bytes: &[u8],
+    ) -> Result<(), Oom>
         requires { offset + length bytes.now ≤ 262144 }
         ensures ok { OnOk result (self.new ≡ with_bytes self.old client (λ contents. written contents offset bytes.now) (Ok ino)) }
         ensures err { OnErr result (self.new ≡ self.old) }
     {
         if (ino.0 as usize) < self.nodes.len() {
-            write_slot(&mut self.nodes[ino.0 as usize], self.alloc, client, offset, bytes)?;
+            write_slot(
+                &mut self.nodes[ino.0 as usize],
+                self.alloc,
+                client,
+                offset,
+                bytes,
+            )?;
         }
         Ok(())
     }
 
     /// Cuts a file off at a size, or grows it to it by zeros.
-    pub(crate) fn truncate_node(&mut self, ino: Ino, client: ClientId, size: usize) -> Result<(), Oom>
+    pub(crate) fn truncate_node(
+        &mut self,
+        ino: Ino,
+        client: ClientId,
+        size: usize,
+    ) -> Result<(), Oom>
         requires { size ≤ 262144 }
         ensures ok { OnOk result (self.new ≡ with_bytes self.old client (λ contents. resized contents size) (Ok ino)) }
         ensures err { OnErr result (self.new ≡ self.old) }
@@ -210,7 +227,12 @@ impl PlainTree {
     }
 
     /// Makes a descriptor of a client stand for something else, or for nothing.
-    pub(crate) fn set_descriptor(&mut self, client: ClientId, fd: u8, descriptor: Option<Descriptor>)
+    pub(crate) fn set_descriptor(
+        &mut self,
+        client: ClientId,
+        fd: u8,
+        descriptor: Option<Descriptor>,
+    )
         ensures { self.new ≡ with_descriptor self.old client fd descriptor }
     {
         if (client.0 as usize) < self.tables.len() {
@@ -273,7 +295,13 @@ fn remove_name(slot: &mut Option<Node>, name: &Blob)
 }
 
 /// Lays bytes over those of what stands at a number, if that is a file.
-fn write_slot(slot: &mut Option<Node>, alloc: Global, client: ClientId, offset: usize, bytes: &[u8]) -> Result<(), Oom>
+fn write_slot(
+    slot: &mut Option<Node>,
+    alloc: Global,
+    client: ClientId,
+    offset: usize,
+    bytes: &[u8],
+) -> Result<(), Oom>
     requires { offset + length bytes.now ≤ 262144 }
     ensures ok { OnOk result (slot.new ≡ changed_node client (λ contents. written contents offset bytes.now) slot.old) }
     ensures err { OnErr result (slot.new ≡ slot.old) }
@@ -286,7 +314,12 @@ fn write_slot(slot: &mut Option<Node>, alloc: Global, client: ClientId, offset: 
 }
 
 /// Cuts off or grows what stands at a number, if that is a file.
-fn truncate_slot(slot: &mut Option<Node>, alloc: Global, client: ClientId, size: usize) -> Result<(), Oom>
+fn truncate_slot(
+    slot: &mut Option<Node>,
+    alloc: Global,
+    client: ClientId,
+    size: usize,
+) -> Result<(), Oom>
     requires { size ≤ 262144 }
     ensures ok { OnOk result (slot.new ≡ changed_node client (λ contents. resized contents size) slot.old) }
     ensures err { OnErr result (slot.new ≡ slot.old) }

@@ -1,8 +1,7 @@
 ghost use Rattle.std.specs.Prelude.{◌≡◌, ◌≤◌, ◌+◌, Some, IfOk, OnOk, OnErr, length, unwrap_or};
 ghost use Rattle.tree_law.specs.FileState.{new_file, changed_file, flushed_file, restored_file, is_writer};
-ghost use Rattle.tree_law.specs.Bytes.{read_at, resized, written};
+ghost use Rattle.file_bytes.specs.Bytes.{read_at, resized, written};
 
-use crate::bytes;
 use cal_base::{Blob, ClientId, Oom};
 use std::alloc::Global;
 use std::marker::Model;
@@ -58,17 +57,23 @@ impl RegularFile {
     pub fn read(&self, alloc: Global, offset: usize, count: usize) -> Result<Blob, Oom>
         ensures { IfOk result (λ bytes. bytes ≡ read_at self.now.contents offset count) }
     {
-        bytes::read(alloc, self.contents.as_slice(), offset, count)
+        file_bytes::read(alloc, self.contents.as_slice(), offset, count)
     }
 
     /// Lays bytes over the present ones; a gap before them becomes zeros. What lasts stays.
-    pub fn write(&mut self, alloc: Global, client: ClientId, offset: usize, bytes: &[u8]) -> Result<(), Oom>
+    pub fn write(
+        &mut self,
+        alloc: Global,
+        client: ClientId,
+        offset: usize,
+        bytes: &[u8],
+    ) -> Result<(), Oom>
         requires { offset + length bytes.now ≤ 262144 }
         ensures ok { OnOk result (self.new ≡ changed_file client (written self.old.contents offset bytes.now) self.old) }
         ensures err { OnErr result (self.new ≡ self.old) }
     {
         keep(alloc, &mut self.kept, self.contents.as_slice())?;
-        bytes::write(&mut self.contents, offset, bytes)?;
+        file_bytes::write(&mut self.contents, offset, bytes)?;
         self.writer = Some(client);
         Ok(())
     }
@@ -80,7 +85,7 @@ impl RegularFile {
         ensures err { OnErr result (self.new ≡ self.old) }
     {
         keep(alloc, &mut self.kept, self.contents.as_slice())?;
-        bytes::resize(&mut self.contents, size)?;
+        file_bytes::resize(&mut self.contents, size)?;
         self.writer = Some(client);
         Ok(())
     }
@@ -124,7 +129,7 @@ fn keep(alloc: Global, kept: &mut Option<Blob>, contents: &[u8]) -> Result<(), O
     match kept {
         Some(_) => Ok(()),
         None => {
-            *kept = Some(bytes::copy(alloc, contents)?);
+            *kept = Some(file_bytes::copy(alloc, contents)?);
             Ok(())
         }
     }

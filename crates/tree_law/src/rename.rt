@@ -49,7 +49,14 @@ impl PlainTree {
     }
 
     /// The move of an entry between two directories, or the first refusal.
-    fn moving(&self, path: &[Blob], goal: &[Blob], ino: Ino, from: Ino, to: Ino) -> Result<Move, Why>
+    fn moving(
+        &self,
+        path: &[Blob],
+        goal: &[Blob],
+        ino: Ino,
+        from: Ino,
+        to: Ino,
+    ) -> Result<Move, Why>
         requires path { 0 < length path.now }
         requires goal { 0 < length goal.now }
         ensures { result ≡ moving self.now path.now goal.now ino from to }

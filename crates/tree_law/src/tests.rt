@@ -1,6 +1,4 @@
-use crate::{
-    ApplyError, Call, Entry, Mode, Path, PlainTree, ReadPathError, Reply, Why, read_path,
-};
+use crate::{ApplyError, Call, Entry, Mode, Path, PlainTree, ReadPathError, Reply, Why, read_path};
 use cal_base::{Blob, ClientId, Ino, NameList};
 use std::alloc::Global;
 use std::test::Fail;
@@ -69,29 +67,77 @@ fn open(alloc: Global, tree: &mut PlainTree, client: u8, text: &str, fd: u8) -> 
     reply(tree, client, call, Reply::Fd(fd))
 }
 
-fn rename(alloc: Global, tree: &mut PlainTree, from: &str, to: &str, told: Reply) -> Result<bool, Fail> {
+fn rename(
+    alloc: Global,
+    tree: &mut PlainTree,
+    from: &str,
+    to: &str,
+    told: Reply,
+) -> Result<bool, Fail> {
     let call = Call::Rename(path(alloc, from)?, path(alloc, to)?);
     reply(tree, 0, call, told)
 }
 
-fn write(alloc: Global, tree: &mut PlainTree, offset: u64, text: &str, told: Reply) -> Result<bool, Fail> {
+fn write(
+    alloc: Global,
+    tree: &mut PlainTree,
+    offset: u64,
+    text: &str,
+    told: Reply,
+) -> Result<bool, Fail> {
     let bytes = blob(alloc, text)?;
-    reply(tree, 0, Call::Write { fd: 0, offset, bytes }, told)
+    reply(
+        tree,
+        0,
+        Call::Write {
+            fd: 0,
+            offset,
+            bytes,
+        },
+        told,
+    )
 }
 
-fn read(alloc: Global, tree: &mut PlainTree, client: u8, offset: u64, text: &str) -> Result<bool, Fail> {
+fn read(
+    alloc: Global,
+    tree: &mut PlainTree,
+    client: u8,
+    offset: u64,
+    text: &str,
+) -> Result<bool, Fail> {
     let bytes = Reply::Bytes(blob(alloc, text)?);
-    reply(tree, client, Call::Read { fd: 0, offset, len: 9 }, bytes)
+    reply(
+        tree,
+        client,
+        Call::Read {
+            fd: 0,
+            offset,
+            len: 9,
+        },
+        bytes,
+    )
 }
 
-fn stat(alloc: Global, tree: &mut PlainTree, client: u8, text: &str, told: Reply) -> Result<bool, Fail> {
+fn stat(
+    alloc: Global,
+    tree: &mut PlainTree,
+    client: u8,
+    text: &str,
+    told: Reply,
+) -> Result<bool, Fail> {
     let call = Call::Stat(path(alloc, text)?);
     reply(tree, client, call, told)
 }
 
 fn flush(tree: &mut PlainTree, client: u8, number: u32) -> Result<bool, Fail> {
     let client = ClientId(client);
-    take(tree, Entry::Flush { client, ino: Ino(number) })
+    take(
+        tree,
+        Entry::Flush {
+            client,
+            ino: Ino(number),
+        },
+    )
 }
 
 #[test]
@@ -146,12 +192,33 @@ fn directories_come_and_go(rt: HostRuntime) -> Result<(), Fail> {
     let alloc = rt.alloc();
     let mut tree = new_tree(alloc)?;
     assert!(rt; mkdir(alloc, &mut tree, "/d", 1)?);
-    assert!(rt; reply(&mut tree, 0, Call::Rmdir(path(alloc, "/")?), Reply::Refused(Why::Busy))?);
-    assert!(rt; reply(&mut tree, 0, Call::Unlink(path(alloc, "/d")?), Reply::Refused(Why::IsDir))?);
+    assert!(rt;
+        reply(
+            &mut tree,
+            0,
+            Call::Rmdir(path(alloc, "/")?),
+            Reply::Refused(Why::Busy)
+        )?
+    );
+    assert!(rt;
+        reply(
+            &mut tree,
+            0,
+            Call::Unlink(path(alloc, "/d")?),
+            Reply::Refused(Why::IsDir)
+        )?
+    );
     assert!(rt; mkdir(alloc, &mut tree, "/d/e", 2)?);
     assert!(rt; rename(alloc, &mut tree, "/d/e", "/c", Reply::Done)?);
     let names = NameList::from_vec(vec![in alloc; blob(alloc, "c")?, blob(alloc, "d")?]?);
-    assert!(rt; reply(&mut tree, 0, Call::Readdir(path(alloc, "/")?), Reply::Names(names))?);
+    assert!(rt;
+        reply(
+            &mut tree,
+            0,
+            Call::Readdir(path(alloc, "/")?),
+            Reply::Names(names)
+        )?
+    );
     assert!(rt; reply(&mut tree, 0, Call::Rmdir(path(alloc, "/d")?), Reply::Done)?);
     assert!(rt; stat(alloc, &mut tree, 0, "/d", Reply::Refused(Why::NoEnt))?);
     assert_eq!(rt; tree.least_free(), Some(Ino(1)));
@@ -172,7 +239,15 @@ fn gaps_read_as_zeros(rt: HostRuntime) -> Result<(), Fail> {
     assert!(rt; read(alloc, &mut tree, 0, 5001, "")?);
     assert!(rt; write(alloc, &mut tree, 262144, "x", Reply::Refused(Why::FBig))?);
     let (free, needed) = (15, 16);
-    assert!(rt; write(alloc, &mut tree, 0, "x", Reply::Refused(Why::NoSpace { free, needed }))?);
+    assert!(rt;
+        write(
+            alloc,
+            &mut tree,
+            0,
+            "x",
+            Reply::Refused(Why::NoSpace { free, needed })
+        )?
+    );
     Ok(())
 }
 
@@ -189,7 +264,14 @@ fn a_purge_goes_back_to_what_was_flushed(rt: HostRuntime) -> Result<(), Fail> {
     assert!(rt; write(alloc, &mut tree, 0, "new", Reply::Count(3))?);
     assert!(rt; open(alloc, &mut tree, 1, "/a", 0)?);
     assert!(rt; !read(alloc, &mut tree, 1, 0, "new")?);
-    assert!(rt; take(&mut tree, Entry::Purge { client: ClientId(0) })?);
+    assert!(rt;
+        take(
+            &mut tree,
+            Entry::Purge {
+                client: ClientId(0)
+            }
+        )?
+    );
     assert!(rt; read(alloc, &mut tree, 1, 0, "old")?);
     assert!(rt; !stat(alloc, &mut tree, 0, "/a", Reply::File(3))?);
     Ok(())

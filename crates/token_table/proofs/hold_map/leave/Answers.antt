@@ -2,5 +2,5 @@ use Rattle.std.proofs.Common.{rules}
 use Rattle.std.proofs.lemmas.Fn.{filter_same}
 use Rattle.token_table.proofs.hold_map.leave.Goals as goal
 
-pub returns : goal.returns
-returns c = filter_same _ _ _ (λ x b f' call. search rules) _ _ c.retain.ensures.filtered
+pub returns-clause-order : goal.returns-clause-order
+returns-clause-order c = filter_same _ _ _ (λ x b f' call. search rules) _ _ c.retain.ensures.filtered

@@ -1,0 +1,3 @@
+pub mod Answerable
+pub mod Reported
+pub mod Walks

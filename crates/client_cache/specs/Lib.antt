@@ -1,0 +1,6 @@
+pub mod Holds
+pub mod Known
+pub mod Changes
+pub mod Covered
+pub mod AfterAnswer
+pub mod Reports

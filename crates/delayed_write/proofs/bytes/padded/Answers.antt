@@ -1,6 +1,0 @@
-use Rattle.std.proofs.Common.{◌∙◌}
-use Rattle.delayed_write.proofs.ByteLemmas.{zeros_overlaid}
-use Rattle.delayed_write.proofs.bytes.padded.Goals as goal
-
-pub returns : goal.returns
-returns c = c.overlay.ensures ∙ zeros_overlaid 4096 c.args.bytes.now c.requires

@@ -1,0 +1,7 @@
+pub mod SlotBytes
+pub mod Order
+pub mod Changes
+pub mod Tables
+pub mod Loads
+pub mod Directories
+pub mod Laws

@@ -1,0 +1,4 @@
+pub mod Block
+pub mod Directory
+pub mod Index
+pub mod Loading

@@ -1,0 +1,61 @@
+ghost use Rattle.std.specs.Prelude.{◌≡◌, ◌≤◌, length, take};
+
+use cal_base::{Ino, NAME_BYTES};
+use std::marker::Model;
+
+/// The name of a directory's entry, of at most 27 bytes. Contracts see its bytes.
+#[derive(Debug, Drop)]
+pub struct EntryName {
+    bytes: [u8; NAME_BYTES],
+    len: usize,
+}
+
+impl Model for EntryName {
+    ghost use Rattle.std.specs.Prelude.{◌≤◌, ℕ, List, take};
+
+    ghost Value = { List ℕ };
+
+    ghost view = { λ name. take name.len name.bytes };
+
+    ghost invariant = { λ name. name.len ≤ 27 };
+}
+
+impl EntryName {
+    /// The name of these bytes, at most 27.
+    pub fn new(bytes: &[u8]) -> EntryName
+        requires { length bytes.now ≤ 27 }
+        ensures { result ≡ bytes.now }
+    {
+        let mut name = [0; NAME_BYTES];
+        copy_front(bytes, &mut name);
+        EntryName {
+            bytes: name,
+            len: bytes.len(),
+        }
+    }
+
+    /// Its bytes.
+    pub fn as_slice(&self) -> &[u8]
+        ensures bytes { result.now ≡ self.now }
+        ensures length { length result.now ≤ 27 }
+    {
+        &self.bytes[..self.len]
+    }
+}
+
+/// Copies bytes to the front of others.
+fn copy_front(bytes: &[u8], into: &mut [u8])
+    requires { length bytes.now ≤ length into.old }
+    ensures { take (length bytes.now) into.new ≡ bytes.now }
+{
+    into[..bytes.len()].copy_from_slice(bytes);
+}
+
+/// An entry of a directory.
+#[derive(Debug, Drop)]
+pub struct DirEntry {
+    /// Its name, which is one of the path grammar.
+    pub name: EntryName,
+    /// The inode that it names, 1 to 511.
+    pub ino: Ino,
+}

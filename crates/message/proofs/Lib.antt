@@ -1,0 +1,15 @@
+pub mod Front
+pub mod Many
+pub mod Parts
+pub mod Paths
+pub mod Flat
+pub mod Fitting
+pub mod Exact
+pub mod FieldLaws
+pub mod KindLaws
+pub mod NameLaws
+pub mod Branches
+pub mod CallLaws
+pub mod TokenLaws
+pub mod RecordLaws
+pub mod BodyLaws

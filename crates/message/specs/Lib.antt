@@ -1,0 +1,10 @@
+pub mod Reading
+pub mod Decoding
+pub mod Field
+pub mod Names
+pub mod Calls
+pub mod Tokens
+pub mod Bodies
+pub mod Spelling
+pub mod Range
+pub mod Fits

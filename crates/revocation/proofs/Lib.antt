@@ -1,0 +1,5 @@
+pub mod Asks
+pub mod Requests
+pub mod Drops
+pub mod Walks
+pub mod Formed

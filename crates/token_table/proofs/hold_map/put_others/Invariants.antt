@@ -1,0 +1,6 @@
+use Rattle.std.proofs.Common.{◌≡◌, ◌++◌, take, filter, not}
+use Rattle.token_table.specs.Table.{same_client}
+use Rattle.token_table.proofs.hold_map.put_others.Given as goal
+
+abbrev pub invariant-loop-write : goal.invariant-loop-write
+invariant-loop-write l = l.last.items ≡ l.fn.last.items ++ filter (λ w. not (same_client l.c w.0)) (take l.write-index l.writes)

@@ -1,3 +1,4 @@
 pub mod Answerable
 pub mod Reported
+pub mod TreeNeeds
 pub mod Walks

@@ -1,4 +1,4 @@
-use Rattle.std.proofs.Common.{◌≡◌, ℕ, Bool, true, false, ◌&&◌, is_some, List, [], ◌∷◌, ◌++◌, Option, Some, None, Result, Ok, Err, option_map, refl, sym, ap, ◌∙◌, true≢false, rules}
+use Rattle.std.proofs.Common.{◌≡◌, ℕ, Bool, true, false, ◌&&◌, is_some, List, [], ◌∷◌, ◌++◌, Option, Some, None, Result, Ok, Err, option_map, refl, sym, ap, ◌∙◌, true≢false}
 use Rattle.std.specs.List.{list_all}
 use Rattle.cal_base.specs.declared.directory_entry.DirectoryEntry.{DirectoryEntry}
 use Rattle.cal_base.specs.declared.directory_entry.EntryKind.{EntryKind}
@@ -11,8 +11,7 @@ use Rattle.tree_law.specs.declared.reply.Why.TheVariants.{NotDir}
 use Rattle.token_kind.specs.declared.hold.Hold.{Hold}
 use Rattle.token_kind.specs.declared.hold.Hold.TheVariants.{None as Nothing, Read, Write}
 use Rattle.client_cache.specs.Covered.{is_end_met, is_met}
-use Rattle.client_cache.specs.Known.{Known, inode_at, known_if, part_of}
-use Rattle.client_cache.specs.Holds.{is_held}
+use Rattle.client_cache.specs.Known.{Known, inode_at, part_of}
 
 pub list_all-append : {X : Type 0} (p : X → Bool) (xs ys : List X) → list_all p (xs ++ ys) ≡ (list_all p xs && list_all p ys)
 list_all-append p [] ys = refl
@@ -32,7 +31,7 @@ module _ (part : Part) (met : Need → Bool) (entries_met : (ino : Ino) → met 
   walked_err why (name ∷ names) = walked_err why names
 
   -- the needs of a walk are met exactly where it comes to an end
-  walk_met : (at : Option (Result Place Why)) (names : List (List ℕ)) → is_some at ≡ true → list_all met (walk_needs_in part at names) ≡ is_some (walked_in part at names)
+  pub walk_met : (at : Option (Result Place Why)) (names : List (List ℕ)) → is_some at ≡ true → list_all met (walk_needs_in part at names) ≡ is_some (walked_in part at names)
   walk_met at [] some = sym some
   walk_met None (name ∷ names) some = absurd (true≢false (sym some))
   walk_met (Some (Err why)) (name ∷ names) some = sym (walked_err why names)
@@ -63,3 +62,7 @@ entries_met_by known ino Write e = rw e refl
 -- what a path needs is met by what a client holds exactly where it resolves the path by itself to an end whose needs are met
 pub met_path : (known : Known) (needs : Ino → EntryKind → List Need) (path : List (List ℕ)) → is_end_met (is_met known) needs (resolved_in (part_of known) path) ≡ list_all (is_met known) (path_needs_in needs (part_of known) path)
 met_path known needs path = path_met (part_of known) (is_met known) (λ ino. entries_met_by known ino (inode_at known ino).holds.names refl) needs path
+
+-- Names of a directory is met exactly where its entries are in the part
+pub met_entries : (known : Known) (ino : Ino) → is_met known (names_read ino) ≡ is_some ((part_of known).entries ino)
+met_entries known ino = entries_met_by known ino (inode_at known ino).holds.names refl

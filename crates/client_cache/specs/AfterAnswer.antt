@@ -1,14 +1,12 @@
 -- What a client knows after it has answered a call by itself.
 use Rattle.std.specs.Prelude.{◌+◌, ℕ, List, length, Option, Some, None, Result, Ok, Err, slice_set}
-use Rattle.cal_base.specs.declared.directory_entry.EntryKind.{EntryKind}
-use Rattle.cal_base.specs.declared.directory_entry.EntryKind.TheVariants.{File as IsFile, Directory as IsDirectory}
 use Rattle.cal_base.specs.declared.identity.Ino.{Ino}
 use Rattle.delayed_write.specs.Delayed.{Delayed, after_truncate, after_write}
 use Rattle.tree_law.specs.Descriptors.{within_limit, writable}
-use Rattle.tree_law.specs.Part.{Place, resolved_in}
+use Rattle.tree_law.specs.Part.{resolved_in}
 use Rattle.tree_law.specs.Tree.{least_unused}
 use Rattle.tree_law.specs.declared.call.Call.{Call}
-use Rattle.tree_law.specs.declared.call.Call.TheVariants.{Create, Mkdir, Unlink, Rmdir, Rename, Open, Close, Read, Write, Truncate, Stat, Readdir, Fsync}
+use Rattle.tree_law.specs.declared.call.Call.TheVariants.{Open, Close, Write, Truncate}
 use Rattle.tree_law.specs.declared.descriptor.Descriptor.{Descriptor}
 use Rattle.tree_law.specs.declared.mode.Mode.{Mode}
 use Rattle.tree_law.specs.declared.reply.Why.{Why}

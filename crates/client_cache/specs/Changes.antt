@@ -1,5 +1,5 @@
 -- What a grant, a lowering and a flush make of what a client knows.
-use Rattle.std.specs.Prelude.{◌+◌, ◌++◌, ◌∷◌, ◌≡◌, ◌≤◌, ◌<◌, ℕ, Bool, true, false, ⊤, not, nat_eq, find, filter, map, length, List, [], Option, Some, None, slice_set, if◌then◌else◌}
+use Rattle.std.specs.Prelude.{◌+◌, ◌++◌, ◌∷◌, ◌≤◌, ℕ, Bool, true, ⊤, not, nat_eq, find, filter, map, length, [], Option, Some, None, slice_set, if◌then◌else◌}
 use Rattle.cal_base.specs.declared.identity.Ino.{Ino}
 use Rattle.delayed_write.specs.Delayed.{clean, flush_of}
 use Rattle.token_kind.specs.Hold.{lesser_of}

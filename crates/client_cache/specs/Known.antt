@@ -1,5 +1,5 @@
 -- What a client knows and may answer from.
-use Rattle.std.specs.Prelude.{ℕ, Bool, true, false, ◌&&◌, not, nat_eq, find, is_none, List, [], Option, Some, None, slice_index_or, replicate}
+use Rattle.std.specs.Prelude.{ℕ, Bool, true, false, ◌&&◌, nat_eq, find, is_none, List, [], Option, Some, None, slice_index_or, replicate}
 use Rattle.cal_base.specs.declared.identity.Ino.{Ino}
 use Rattle.delayed_write.specs.Delayed.{clean}
 use Rattle.token_kind.specs.declared.flush.Flush.{Flush}

@@ -4,3 +4,4 @@ pub mod Changes
 pub mod Covered
 pub mod AfterAnswer
 pub mod Reports
+pub mod Agrees

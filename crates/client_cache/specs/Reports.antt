@@ -5,7 +5,7 @@ use Rattle.token_kind.specs.declared.«class».Class.{Class}
 use Rattle.token_kind.specs.declared.«class».Class.TheVariants.{Names, Data, Attr, Open}
 use Rattle.token_kind.specs.declared.flush.Flush.{Flush}
 use Rattle.token_kind.specs.declared.hold.Hold.{Hold}
-use Rattle.token_kind.specs.declared.hold.Hold.TheVariants.{None as Nothing, Read, Write}
+use Rattle.token_kind.specs.declared.hold.Hold.TheVariants.{None as Nothing}
 use Rattle.token_kind.specs.declared.reported.Reported.{Reported}
 use Rattle.client_cache.specs.Holds.{hold_in, is_held}
 use Rattle.client_cache.specs.Known.{Known, flush_at, inode_at}

@@ -8,6 +8,7 @@ mod cached_inode;
 mod covers;
 mod flushes;
 mod holds;
+mod law;
 mod resolve;
 #[cfg(test)]
 mod tests;
@@ -16,3 +17,4 @@ pub use cache::Cache;
 pub use cached_inode::CachedInode;
 pub use flushes::Left;
 pub use holds::Holds;
+pub use law::a_cache_answers_as_the_tree;

@@ -5,8 +5,8 @@ ghost use Rattle.file_bytes.specs.Bytes.{read_at};
 ghost use Rattle.delayed_write.specs.Marks.{marked_by_truncate, marked_by_write, marked_count};
 ghost use Rattle.delayed_write.specs.Delayed.{Turns, after_truncate, after_write, clean, flush_of};
 
-use crate::pieces::pieces;
 use crate::marks;
+use crate::pieces::pieces;
 use cal_base::{Blob, FILE_BLOCKS, Ino, Oom};
 use std::marker::Model;
 use token_kind::{Flush, Hold};

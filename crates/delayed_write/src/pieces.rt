@@ -1,8 +1,8 @@
 ghost use Rattle.std.specs.Prelude.{◌≡◌, ◌<◌, IfOk, OnOk};
 ghost use Rattle.delayed_write.specs.Delayed.{pieces_below, with_piece};
 
-use file_bytes::block;
 use cal_base::{FILE_BLOCKS, Oom, Sector};
+use file_bytes::block;
 use std::alloc::Global;
 use token_kind::PieceList;
 

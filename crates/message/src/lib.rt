@@ -3,7 +3,6 @@
 #![tactic(auto)]
 
 mod calls;
-mod read;
 mod encode_message;
 mod field;
 mod input;
@@ -11,12 +10,13 @@ mod law;
 mod message;
 mod names;
 mod put;
+mod read;
 mod stop;
 #[cfg(test)]
 mod tests;
 mod tokens;
 
-pub use read::{DecodeError, decode};
 pub use encode_message::encode;
 pub use law::{one_spelling, read_again};
 pub use message::Message;
+pub use read::{DecodeError, decode};

@@ -79,11 +79,7 @@ impl<'a> Input<'a> {
 
     /// An entry of a directory, the name of which stands behind another one.
     #[tactic(auto, unfolding(crate::specs::Names::entry_at))]
-    fn entry(
-        &mut self,
-        alloc: Global,
-        before: &[u8],
-    ) -> Result<(DirectoryEntry, &'a [u8]), Stop>
+    fn entry(&mut self, alloc: Global, before: &[u8]) -> Result<(DirectoryEntry, &'a [u8]), Stop>
         ensures entry { ReadsAs (λ found. found.0) result self.new.rest.now (entry_at before.now self.old.rest.now) }
         ensures name { IfOk result (λ found. found.1.now ≡ found.0.name) }
     {

@@ -1,4 +1,4 @@
-use Rattle.std.proofs.Common.{◌≡◌, ◌<◌, ℕ, ◌+◌, List, length, take, get_or, sym, subst}
+use Rattle.std.proofs.Common.{◌<◌, ℕ, ◌+◌, List, length, take, get_or, sym, subst}
 use Rattle.std.proofs.lemmas.List.Sums.{fold_more}
 use Rattle.cal_base.specs.declared.identity.ClientId.{ClientId}
 use Rattle.cal_base.specs.declared.identity.Ino.{Ino}

@@ -1,4 +1,4 @@
-use Rattle.std.specs.Prelude.{ℕ, List, [], Bool, true, false, Option, Some, None, if◌then◌else◌, nat_lt, unwrap_or, count_by, find, position, fold, replicate, slice_get, slice_set}
+use Rattle.std.specs.Prelude.{ℕ, List, Bool, true, false, Option, Some, None, if◌then◌else◌, nat_lt, unwrap_or, count_by, find, position, fold, replicate, slice_get, slice_set}
 use Rattle.std.specs.Option.{option_map}
 use Rattle.cal_base.specs.declared.identity.ClientId.{ClientId}
 use Rattle.token_table.specs.Table.{Table}

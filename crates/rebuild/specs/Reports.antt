@@ -1,4 +1,4 @@
-use Rattle.std.specs.Prelude.{◌≡◌, ◌+◌, ℕ, List, Bool, ◌&&◌, nat_lt, nat_le, if◌then◌else◌, map, All}
+use Rattle.std.specs.Prelude.{◌≡◌, ◌+◌, ℕ, ◌&&◌, nat_lt, nat_le, if◌then◌else◌, map, All}
 use Rattle.cal_base.specs.declared.identity.ClientId.{ClientId}
 use Rattle.token_kind.specs.declared.hold.Hold.{Hold}
 use Rattle.token_kind.specs.declared.piece.Piece.{Piece}

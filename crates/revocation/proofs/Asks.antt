@@ -1,4 +1,4 @@
-use Rattle.std.proofs.Common.{◌≡◌, Bool, true, false, ◌&&◌, not, Option, Some, None, if◌then◌else◌, refl, sym, ap, ◌∙◌}
+use Rattle.std.proofs.Common.{◌≡◌, Bool, true, false, ◌&&◌, not, Option, Some, if◌then◌else◌, refl, ap, ◌∙◌}
 use Rattle.token_kind.specs.declared.blocker.Blocker.{Blocker}
 use Rattle.token_kind.specs.declared.hold.Hold.{Hold}
 use Rattle.token_table.specs.Blockers.{is_open}

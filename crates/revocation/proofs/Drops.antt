@@ -1,4 +1,4 @@
-use Rattle.std.proofs.Common.{◌≡◌, List, [], ◌∷◌, Bool, true, false, not, filter, Option, Some, None, if◌then◌else◌, refl, sym, ap, ◌∙◌, true≢false}
+use Rattle.std.proofs.Common.{◌≡◌, List, [], ◌∷◌, Bool, true, false, not, filter, Option, None, if◌then◌else◌, refl, sym, ap, ◌∙◌, true≢false}
 use Rattle.cal_base.specs.declared.identity.ClientId.{ClientId}
 use Rattle.token_kind.specs.declared.hold.Hold.{Hold}
 use Rattle.token_table.specs.declared.hold_key.HoldKey.{HoldKey}

@@ -1,4 +1,4 @@
-use Rattle.std.proofs.Common.{◌≡◌, ◌≤◌, ◌<◌, ℕ, ◌⊎◌, inl, inr, List, [], ◌∷◌, Bool, true, false, ◌&&◌, not, nat_lt, length, fold, IsTrue, Option, Some, None, cond, if◌then◌else◌, refl, sym, ap, subst, ◌∙◌, true≢false, arith, rules, Contains}
+use Rattle.std.proofs.Common.{◌≡◌, ◌≤◌, ◌<◌, ℕ, ◌⊎◌, inl, inr, List, [], ◌∷◌, Bool, true, false, nat_lt, fold, Option, Some, None, if◌then◌else◌, refl, sym, ap, subst, ◌∙◌, true≢false, arith, rules, Contains}
 use Rattle.std.specs.List.{All, filter_map, cons_option}
 use Rattle.std.proofs.lemmas.List.Elements.{All-cons, Contains-get_or, Contains-append_right}
 use Rattle.cal_base.specs.declared.identity.ClientId.{ClientId}
@@ -6,7 +6,7 @@ use Rattle.token_kind.specs.Class.{class_number}
 use Rattle.token_kind.specs.Hold.{hold_number, lesser_of}
 use Rattle.token_kind.specs.declared.blocker.Blocker.{Blocker}
 use Rattle.token_kind.specs.declared.«class».Class.{Class}
-use Rattle.token_kind.specs.declared.«class».Class.TheVariants.{Names, Data, Attr, Open}
+use Rattle.token_kind.specs.declared.«class».Class.TheVariants.{Names, Data, Attr}
 use Rattle.token_kind.specs.declared.hold.Hold.{Hold}
 use Rattle.token_kind.specs.declared.hold.Hold.TheVariants.{None as Nothing, Read, Write}
 use Rattle.token_kind.specs.declared.revoke.Revoke.{Revoke}
@@ -14,8 +14,8 @@ use Rattle.token_table.specs.Blockers.{is_open}
 use Rattle.token_table.specs.Table.{key_of, same_key}
 use Rattle.token_table.specs.declared.hold_key.HoldKey.{HoldKey}
 use Rattle.token_table.proofs.Keys.{same_key-true}
-use Rattle.revocation.specs.Formed.{most_asked, is_of_directory, classes_rise, IsRevoke, AreAskable}
-use Rattle.revocation.specs.Revokes.{key_of_blocker, lower_asked, asked_with, item_of, revoke_with, revoke_of, items_of}
+use Rattle.revocation.specs.Formed.{most_asked, is_of_directory, IsRevoke, AreAskable}
+use Rattle.revocation.specs.Revokes.{key_of_blocker, lower_asked, asked_with, item_of, revoke_with, revoke_of}
 use Rattle.revocation.specs.declared.owner.Owner.{Owner}
 
 lesser_is_low : (a h : Hold) → hold_number (lesser_of a h) ≤ hold_number h

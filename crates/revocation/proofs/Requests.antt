@@ -1,7 +1,7 @@
-use Rattle.std.proofs.Common.{◌≡◌, List, [], ◌∷◌, ◌++◌, drop, Bool, true, false, ◌||◌, cond, filter, if◌then◌else◌, refl, sym, ap, ◌∙◌, true≢false, rules}
+use Rattle.std.proofs.Common.{◌≡◌, List, [], ◌∷◌, ◌++◌, drop, Bool, true, false, ◌||◌, cond, filter, refl, ◌∙◌, true≢false, rules}
 use Rattle.std.specs.List.{IsDistinct, AllByRecursion, list_any}
 use Rattle.tree_law.specs.declared.request.Request.{Request}
-use Rattle.revocation.specs.Waiting.{same_request, queued, without_client}
+use Rattle.revocation.specs.Waiting.{same_request}
 
 module _ {X : Type 0} (e : X → X → Bool) where
   pub distinct-nil : IsDistinct e []

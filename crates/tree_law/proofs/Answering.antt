@@ -1,5 +1,5 @@
 -- The tree determines a call's reply, but for want of room.
-use Rattle.std.proofs.Common.{◌≡◌, ◌⊎◌, inl, inr, Option}
+use Rattle.std.proofs.Common.{◌≡◌, inl, inr, Option}
 use Rattle.cal_base.specs.declared.identity.ClientId.{ClientId}
 use Rattle.cal_base.specs.declared.identity.Ino.{Ino}
 use Rattle.tree_law.specs.Tree.{Tree}

@@ -1,8 +1,8 @@
 -- No entry leaves an idle file.
-use Rattle.std.proofs.Common.{◌≡◌, ◌<◌, ◌&&◌, ℕ, zero, suc, Bool, true, false, not, List, [], ◌∷◌, Option, Some, None, get_or, replicate, refl, ap, ◌∙◌, arith}
+use Rattle.std.proofs.Common.{◌≡◌, ◌<◌, ◌&&◌, ℕ, zero, suc, Bool, false, not, List, [], ◌∷◌, Option, None, get_or, replicate, refl, ap}
 use Rattle.cal_base.specs.declared.identity.ClientId.{ClientId}
 use Rattle.cal_base.specs.declared.identity.Ino.{Ino}
-use Rattle.tree_law.specs.Tree.{Tree, empty_tree, first_nodes, empty_directory}
+use Rattle.tree_law.specs.Tree.{Tree, empty_tree, first_nodes}
 use Rattle.tree_law.specs.Idle.{is_idle, is_open, is_named, is_flushed_file}
 use Rattle.tree_law.specs.Legal.{after, after_call, tree_of}
 use Rattle.tree_law.specs.After.{carried_out}

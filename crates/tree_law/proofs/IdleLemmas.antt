@@ -1,11 +1,10 @@
 -- Dropping idle files leaves all else, and leaves no idle file.
-use Rattle.std.proofs.Common.{◌≡◌, ◌≢◌, ◌<◌, ◌≤◌, ◌+◌, ◌==◌, ◌&&◌, ◌||◌, ◌⊎◌, inl, inr, ℕ, zero, suc, Bool, true, false, not, cond, List, [], ◌∷◌, length, map, Option, Some, None, get_or, set, replicate, refl, sym, ap, subst, ◌∙◌, arith, if◌then◌else◌}
+use Rattle.std.proofs.Common.{◌≡◌, ◌≢◌, ◌<◌, ◌≤◌, ◌&&◌, ◌||◌, inl, inr, ℕ, zero, suc, Bool, true, false, not, List, [], ◌∷◌, Option, Some, None, get_or, set, refl, sym, ap, subst, ◌∙◌, arith, if◌then◌else◌}
 use Rattle.std.proofs.lemmas.Bool.{cases_eq}
 use Rattle.std.proofs.lemmas.List.{get_or-set_other}
 use Rattle.std.specs.List.{list_any}
-use Rattle.tree_law.specs.Tree.{Tree, node_at}
-use Rattle.tree_law.specs.Idle.{is_idle, is_open, is_named, is_flushed_file, names_it, with_node, dropped, swept, swept_below}
-use Rattle.tree_law.specs.declared.descriptor.Descriptor.{Descriptor}
+use Rattle.tree_law.specs.Tree.{Tree}
+use Rattle.tree_law.specs.Idle.{is_idle, is_open, is_named, is_flushed_file, names_it, with_node, dropped, swept_below}
 use Rattle.tree_law.specs.declared.node.Node.{Node}
 use Rattle.tree_law.specs.declared.node.Node.TheVariants.{Directory, Regular}
 
@@ -96,7 +95,7 @@ dropped_node_other tree m k apart = elim (is_idle tree m) as (λ b. node_of (if 
   | false ↦ refl
 ]
 
-swept_node_above : (tree : Tree) (n k : ℕ) → n ≤ k → node_of (swept_below tree n) k ≡ node_of tree k
+pub swept_node_above : (tree : Tree) (n k : ℕ) → n ≤ k → node_of (swept_below tree n) k ≡ node_of tree k
 swept_node_above tree zero k above = ap (λ (t : Tree). node_of t k) (below_zero tree)
 swept_node_above tree (suc n) k above =
     let apart : k ≢ n = λ e. absurd (omega arith) in

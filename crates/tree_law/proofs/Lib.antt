@@ -3,6 +3,7 @@ pub mod ByteLemmas
 pub mod DirectoryNames
 pub mod Histories
 pub mod IdleLemmas
+pub mod OpenFiles
 pub mod PartAnswers
 pub mod PartLemmas
 pub mod PartNeeds

@@ -1,5 +1,5 @@
 -- The replies of a part are those of the whole tree.
-use Rattle.std.proofs.Common.{◌≡◌, ◌+◌, ℕ, Bool, true, false, List, [], ◌∷◌, length, map, Option, Some, None, option_map, IfSome, Result, Ok, Err, refl, sym, ap, subst, ◌∙◌, if◌then◌else◌}
+use Rattle.std.proofs.Common.{◌≡◌, ℕ, true, false, List, [], ◌∷◌, length, map, Option, Some, None, option_map, IfSome, Result, Ok, Err, refl, sym, ap, subst, ◌∙◌, if◌then◌else◌}
 use Rattle.std.specs.FinMap as finite
 use Rattle.cal_base.specs.declared.directory_entry.DirectoryEntry.{DirectoryEntry}
 use Rattle.cal_base.specs.declared.directory_entry.EntryKind.{EntryKind}
@@ -7,21 +7,19 @@ use Rattle.cal_base.specs.declared.directory_entry.EntryKind.TheVariants.{File a
 use Rattle.cal_base.specs.declared.identity.ClientId.{ClientId}
 use Rattle.cal_base.specs.declared.identity.Ino.{Ino}
 use Rattle.file_bytes.specs.Bytes.{read_at}
-use Rattle.tree_law.specs.Names.{Names}
-use Rattle.tree_law.specs.Tree.{Tree, node_at, contents_of, table_of, least_unused, descriptor_at}
+use Rattle.tree_law.specs.Tree.{Tree, node_at, table_of, least_unused, descriptor_at}
 use Rattle.tree_law.specs.Resolve.{resolved, judged, as_file}
-use Rattle.tree_law.specs.Descriptors.{file_behind, reads, readable}
+use Rattle.tree_law.specs.Descriptors.{file_behind, reads}
 use Rattle.tree_law.specs.Answer.{answer, status_of, listing_of, bytes_of, told_at, opened_as}
 use Rattle.tree_law.specs.Part.{Part, Place, answer_in, status_in, listing_in, opened_in, told_in, opening_in, bytes_in, resolved_in}
-use Rattle.tree_law.specs.PartOf.{kind_of, IsKind, IsListing, HasEntries, HasContents, HasSize, IsPartOf}
+use Rattle.tree_law.specs.PartOf.{kind_of, IsKind, HasEntries, HasContents, HasSize, IsPartOf}
 use Rattle.tree_law.specs.declared.descriptor.Descriptor.{Descriptor}
-use Rattle.tree_law.specs.declared.mode.Mode.{Mode}
 use Rattle.tree_law.specs.declared.node.Node.{Node}
 use Rattle.tree_law.specs.declared.node.Node.TheVariants.{Directory, Regular}
 use Rattle.tree_law.specs.declared.call.Call.{Call}
 use Rattle.tree_law.specs.declared.call.Call.TheVariants.{Create, Mkdir, Unlink, Rmdir, Rename, Open, Close, Read, Write, Truncate, Stat, Readdir, Fsync}
 use Rattle.tree_law.specs.declared.reply.Reply.{Reply}
-use Rattle.tree_law.specs.declared.reply.Reply.TheVariants.{Fd, Bytes, File, Dir, Names as Listed, Refused}
+use Rattle.tree_law.specs.declared.reply.Reply.TheVariants.{Bytes, File, Names as Listed, Refused}
 use Rattle.tree_law.specs.declared.reply.Why.{Why}
 use Rattle.tree_law.specs.declared.reply.Why.TheVariants.{BadF}
 use Rattle.tree_law.proofs.PartLemmas.{Agrees, agrees_resolve}

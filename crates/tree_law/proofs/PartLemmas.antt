@@ -1,5 +1,5 @@
 -- What a part of a tree tells by itself is what the whole tree tells.
-use Rattle.std.proofs.Common.{◌≡◌, ◌==◌, ◌++◌, ◌+◌, ℕ, Bool, true, false, nat_eq, cond, List, [], ◌∷◌, length, map, All, Option, Some, None, option_map, IfSome, IsSome, Result, Ok, Err, ok_or, refl, sym, ap, subst, ◌∙◌}
+use Rattle.std.proofs.Common.{◌≡◌, ℕ, Bool, true, false, nat_eq, cond, List, [], ◌∷◌, map, All, Option, Some, None, option_map, IfSome, Result, Ok, Err, ok_or, refl, sym, ap, subst, ◌∙◌}
 use Rattle.std.specs.List.{find}
 use Rattle.std.specs.Ordering.{nat_cmp, eq_by_cmp}
 use Rattle.std.specs.Cmp.{eq_by_cmp_equiv}
@@ -19,7 +19,7 @@ use Rattle.tree_law.specs.PartOf.{kind_of, IsKind, IsListing, HasEntries, IsPart
 use Rattle.tree_law.specs.declared.node.Node.{Node}
 use Rattle.tree_law.specs.declared.node.Node.TheVariants.{Directory, Regular}
 use Rattle.tree_law.specs.declared.reply.Why.{Why}
-use Rattle.tree_law.specs.declared.reply.Why.TheVariants.{NoEnt, NotDir}
+use Rattle.tree_law.specs.declared.reply.Why.TheVariants.{NoEnt}
 
 -- where resolving stands in the part is where it stands in the tree, if the part shows it
 pub record AgreesOn (tree : Tree) (place : Place) (at : Result Ino Why) : Type 0 where

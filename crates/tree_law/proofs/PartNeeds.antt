@@ -1,16 +1,16 @@
 -- Where a part has all that a call needs, its needs are those of the whole tree, and it gives a reply.
-use Rattle.std.proofs.Common.{◌≡◌, ◌++◌, ◌+◌, ℕ, List, [], ◌∷◌, length, map, All, Option, Some, None, option_map, IsSome, Result, Ok, Err, refl, sym, ap, subst, ◌∙◌}
+use Rattle.std.proofs.Common.{◌≡◌, ◌++◌, ℕ, List, [], ◌∷◌, All, Option, Some, None, option_map, IsSome, Result, Ok, Err, refl, sym, ap, ◌∙◌}
 use Rattle.std.proofs.lemmas.List.Elements.{All-nil, All-cons, All-head, All-tail}
 use Rattle.cal_base.specs.declared.directory_entry.DirectoryEntry.{DirectoryEntry}
 use Rattle.cal_base.specs.declared.directory_entry.EntryKind.{EntryKind}
 use Rattle.cal_base.specs.declared.directory_entry.EntryKind.TheVariants.{File as IsFile, Directory as IsDirectory}
 use Rattle.cal_base.specs.declared.identity.ClientId.{ClientId}
 use Rattle.cal_base.specs.declared.identity.Ino.{Ino}
-use Rattle.tree_law.specs.Tree.{Tree, root, node_at, table_of}
-use Rattle.tree_law.specs.Resolve.{looked_up, walked, resolved}
+use Rattle.tree_law.specs.Tree.{Tree, root, node_at}
+use Rattle.tree_law.specs.Resolve.{looked_up, resolved}
 use Rattle.tree_law.specs.Needs.{Need, names_read, look_needs, stat_needs, open_needs, walk_needs, end_needs, path_needs, needs_of, needs, want_of}
 use Rattle.tree_law.specs.Part.{Part, Place, found_in, looked_up_in, walked_in, resolved_in, root_place, look_needs_in, stat_needs_in, open_needs_in, walk_needs_in, end_needs_in, path_needs_in, needs_of_want_in, needs_in}
-use Rattle.tree_law.specs.PartOf.{kind_of, IsKind, IsPartOf, HasNeed, HasNeeds}
+use Rattle.tree_law.specs.PartOf.{kind_of, IsPartOf, HasNeed, HasNeeds}
 use Rattle.tree_law.specs.declared.descriptor.Descriptor.{Descriptor}
 use Rattle.tree_law.specs.declared.node.Node.{Node}
 use Rattle.tree_law.specs.declared.node.Node.TheVariants.{Directory, Regular}
@@ -18,7 +18,7 @@ use Rattle.tree_law.specs.declared.call.Call.{Call}
 use Rattle.tree_law.specs.declared.reply.Why.{Why}
 use Rattle.tree_law.specs.declared.request.Want.{Want}
 use Rattle.tree_law.specs.declared.request.Want.TheVariants.{Stat as WantStat, Open as WantOpen, Readdir as WantReaddir, Read as WantRead, Write as WantWrite}
-use Rattle.tree_law.proofs.PartLemmas.{AgreesOn, Agrees, agrees_look, agrees_resolve}
+use Rattle.tree_law.proofs.PartLemmas.{Agrees, agrees_look, agrees_resolve}
 
 some_map : {A B : Type 0} (f : A → B) (o : Option A) → IsSome o → IsSome (option_map f o)
 some_map f (Some a) some = refl

@@ -1,5 +1,5 @@
 -- Lists by their places.
-use Rattle.std.proofs.Common.{◌≡◌, ◌+◌, ◌<◌, ℕ, zero, suc, List, [], ◌∷◌, Option, Some, None, length, map, replicate, get_or, refl, sym, ap, ◌∙◌, arith}
+use Rattle.std.proofs.Common.{◌≡◌, ◌<◌, ℕ, zero, suc, List, [], ◌∷◌, Option, None, length, map, replicate, get_or, refl, arith}
 
 -- a list in whose places nothing stands
 pub all_none : {A : Type 0} (xs : List (Option A)) → ((k : ℕ) → k < length xs → get_or xs k None ≡ None) → xs ≡ replicate (length xs) None

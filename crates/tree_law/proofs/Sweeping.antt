@@ -1,5 +1,5 @@
 -- Dropping idle files number by number.
-use Rattle.std.proofs.Common.{◌≡◌, ◌+◌, ℕ, zero, suc, refl, ap, arith}
+use Rattle.std.proofs.Common.{◌≡◌, ◌+◌, ℕ, suc, refl, arith}
 use Rattle.tree_law.specs.Tree.{Tree}
 use Rattle.tree_law.specs.Idle.{dropped, swept_below}
 

@@ -1,5 +1,5 @@
 -- How the tree answers a call, where neither an inode nor a block is wanting: the first refusal, else Ok.
-use Rattle.std.specs.Prelude.{◌+◌, ℕ, List, length, Option, Some, None, Result, Ok, Err}
+use Rattle.std.specs.Prelude.{◌+◌, ℕ, length, Option, Some, None, Result, Ok, Err}
 use Rattle.std.specs.FinMap as map
 use Rattle.cal_base.specs.declared.identity.ClientId.{ClientId}
 use Rattle.cal_base.specs.declared.identity.Ino.{Ino}

@@ -1,5 +1,5 @@
 -- A regular file.
-use Rattle.std.specs.Prelude.{◌==◌, ℕ, Bool, true, false, List, [], Option, Some, None, if◌then◌else◌}
+use Rattle.std.specs.Prelude.{◌==◌, ℕ, Bool, false, List, [], Option, Some, None, if◌then◌else◌}
 use Rattle.cal_base.specs.declared.identity.ClientId.{ClientId}
 
 -- its present bytes, those that last, and the client whose writes aren't flushed yet

@@ -10,7 +10,7 @@ use Rattle.tree_law.specs.Answer.{answer}
 use Rattle.tree_law.specs.FileState.{is_writer}
 pub use Rattle.tree_law.specs.After.{after, after_call}
 use Rattle.tree_law.specs.declared.call.Call.{Call}
-use Rattle.tree_law.specs.declared.call.Call.TheVariants.{Create, Mkdir, Unlink, Rmdir, Rename, Open, Close, Read, Write, Truncate, Stat, Readdir, Fsync}
+use Rattle.tree_law.specs.declared.call.Call.TheVariants.{Create, Mkdir, Unlink, Rename, Read, Write, Truncate, Stat, Fsync}
 use Rattle.tree_law.specs.declared.rename.Move.{Move}
 use Rattle.tree_law.specs.declared.reply.Reply.{Reply}
 use Rattle.tree_law.specs.declared.reply.Reply.TheVariants.{Done, Refused}

@@ -1,7 +1,6 @@
 -- What a call needs of tokens, and what a change of the tree touches. A class is its number: 1 Names, 2 Data,
 -- 3 Attr, 4 Open. A hold is its number: 1 Read, 2 Write.
 use Rattle.std.specs.Prelude.{◌+◌, ◌==◌, ℕ, List, [], ◌∷◌, ◌++◌, length, Option, Some, None, Result, Ok, Err, if◌then◌else◌}
-use Rattle.std.specs.FinMap as map
 use Rattle.cal_base.specs.declared.identity.ClientId.{ClientId}
 use Rattle.cal_base.specs.declared.identity.Ino.{Ino}
 use Rattle.tree_law.specs.Tree.{Tree, root, node_at, table_of, least_unused}
@@ -12,7 +11,7 @@ use Rattle.tree_law.specs.declared.descriptor.Descriptor.{Descriptor}
 use Rattle.tree_law.specs.declared.node.Node.{Node}
 use Rattle.tree_law.specs.declared.node.Node.TheVariants.{Directory, Regular}
 use Rattle.tree_law.specs.declared.call.Call.{Call}
-use Rattle.tree_law.specs.declared.call.Call.TheVariants.{Create, Mkdir, Unlink, Rmdir, Rename, Open, Close, Read, Write, Truncate, Stat, Readdir, Fsync}
+use Rattle.tree_law.specs.declared.call.Call.TheVariants.{Create, Mkdir, Unlink, Rmdir, Rename, Open, Read, Write, Truncate, Stat, Readdir}
 use Rattle.tree_law.specs.declared.request.Want.{Want}
 use Rattle.tree_law.specs.declared.request.Want.TheVariants.{Stat as WantStat, Open as WantOpen, Readdir as WantReaddir, Read as WantRead, Write as WantWrite}
 use Rattle.tree_law.specs.declared.rename.Move.{Move}

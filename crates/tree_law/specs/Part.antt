@@ -12,7 +12,7 @@ use Rattle.tree_law.specs.Descriptors.{opened, readable, writable, within_limit}
 use Rattle.tree_law.specs.Answer.{made, counted}
 use Rattle.tree_law.specs.Needs.{Need, names_read, read_needs, write_needs, want_of}
 use Rattle.tree_law.specs.declared.call.Call.{Call}
-use Rattle.tree_law.specs.declared.call.Call.TheVariants.{Create, Mkdir, Unlink, Rmdir, Rename, Open, Close, Read, Write, Truncate, Stat, Readdir, Fsync}
+use Rattle.tree_law.specs.declared.call.Call.TheVariants.{Open, Close, Read, Write, Truncate, Stat, Readdir, Fsync}
 use Rattle.tree_law.specs.declared.descriptor.Descriptor.{Descriptor}
 use Rattle.tree_law.specs.declared.reply.Reply.{Reply}
 use Rattle.tree_law.specs.declared.reply.Reply.TheVariants.{Fd, Bytes, File, Dir, Names as Listed, Refused}

@@ -11,9 +11,11 @@ ghost use Rattle.tree_law.specs.Needs.{needs};
 ghost use Rattle.tree_law.specs.Part.{Part, answer_in, needs_in};
 ghost use Rattle.tree_law.specs.PartOf.{HasNeeds, IsPartOf};
 ghost use Rattle.tree_law.specs.declared.call.Call.{Call};
+ghost use Rattle.tree_law.specs.declared.call.Call.TheVariants.{Read, Unlink};
 ghost use Rattle.tree_law.specs.declared.entry.Entry.{Entry};
 ghost use Rattle.tree_law.specs.declared.reply.Reply.{Reply};
-ghost use Rattle.tree_law.specs.declared.entry.Entry.TheVariants.{Purge};
+ghost use Rattle.tree_law.specs.declared.reply.Reply.TheVariants.{Done};
+ghost use Rattle.tree_law.specs.declared.entry.Entry.TheVariants.{Call as Called, Purge};
 
 /// A part of a tree answers as the whole: a reply that it gives by itself is the tree's own, and where
 /// it has all that a call needs, the needs that it shows are the tree's.
@@ -45,4 +47,9 @@ pub fn one_answer()
 pub fn a_write_is_read_back()
     ensures back { (contents : List ℕ) (offset : ℕ) (bytes : List ℕ) → read_at (written contents offset bytes) offset (length bytes) ≡ bytes }
     ensures gap { (contents : List ℕ) (offset : ℕ) (bytes : List ℕ) (i : ℕ) → length contents ≤ i → i < offset → slice_index (written contents offset bytes) i ≡ 0 }
+{}
+
+/// A file that is open still reads after it lost its name.
+pub fn an_unlinked_file_still_reads()
+    ensures { (tree : Tree) (client other : ClientId) (number : ℕ) (path : List (List ℕ)) (fd offset len : ℕ) → answer (after tree (Called client number (Unlink path) Done None)) other (Read fd offset len) ≡ answer tree other (Read fd offset len) }
 {}

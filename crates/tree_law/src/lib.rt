@@ -32,8 +32,8 @@ pub use descriptor::{Descriptor, DescriptorTable};
 pub use directory::Directory;
 pub use entry::Entry;
 pub use law::{
-    a_part_answers_as_the_whole, a_purge_takes_one_client, a_write_is_read_back, no_file_is_idle,
-    one_answer,
+    a_part_answers_as_the_whole, a_purge_takes_one_client, a_write_is_read_back,
+    an_unlinked_file_still_reads, no_file_is_idle, one_answer,
 };
 pub use mode::Mode;
 pub use node::Node;

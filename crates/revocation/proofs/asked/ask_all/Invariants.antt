@@ -1,7 +1,5 @@
-use Rattle.std.proofs.Common.{◌≡◌, ◌+◌, ◌≤◌, length, take}
+use Rattle.std.proofs.Common.{◌+◌, ◌≤◌, length, take}
 use Rattle.indexmap.specs.IndexMap.{spare}
-use Rattle.token_table.specs.declared.hold_key.HoldKey.{HoldKey}
-use Rattle.revocation.specs.Waiting.{asked_at}
 use Rattle.revocation.specs.Revokes.{AsksAll}
 use Rattle.revocation.proofs.asked.ask_all.Given as goal
 

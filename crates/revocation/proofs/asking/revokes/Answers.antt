@@ -1,7 +1,7 @@
-use Rattle.std.proofs.Common.{ap, ◌∙◌}
+use Rattle.std.proofs.Common.{◌∙◌}
 use Rattle.std.specs.List.{filter_map}
 use Rattle.revocation.specs.Waiting.{asked_at}
-use Rattle.revocation.specs.Revokes.{revoke_of, owners}
+use Rattle.revocation.specs.Revokes.{revoke_of}
 use Rattle.revocation.proofs.asking.revokes.Goals as goal
 
 pub returns : goal.returns

@@ -1,4 +1,4 @@
-use Rattle.std.proofs.Common.{◌≡◌, ℕ, ◌<◌, ◌≤◌, None, get_or, length}
+use Rattle.std.proofs.Common.{◌≡◌, ℕ, ◌<◌, ◌≤◌, None, get_or}
 use Rattle.tree_law.specs.After.{restored_node}
 use Rattle.tree_law.proofs.plain_tree.restore_slots.Given as goal
 

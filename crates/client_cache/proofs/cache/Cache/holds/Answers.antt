@@ -1,5 +1,5 @@
-use Rattle.std.proofs.Common.{rules, ◌∙◌, ap, sym, ◌++◌}
-use Rattle.client_cache.specs.Reports.{reported_at, reported_below}
+use Rattle.std.proofs.Common.{rules}
+use Rattle.client_cache.specs.Reports.{reported_below}
 use Rattle.client_cache.proofs.Reported.{reported_below-more}
 use Rattle.client_cache.proofs.cache.Cache.holds.Goals as goal
 

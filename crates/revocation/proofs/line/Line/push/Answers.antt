@@ -1,4 +1,4 @@
-use Rattle.std.proofs.Common.{List, sym, subst, ◌∙◌, ◌≡◌, ◌++◌, ◌∷◌, [], false, ap}
+use Rattle.std.proofs.Common.{List, sym, subst, ◌∙◌, ap}
 use Rattle.std.specs.List.{IsDistinct, list_any}
 use Rattle.tree_law.specs.declared.request.Request.{Request}
 use Rattle.revocation.specs.Waiting.{same_request, Waiting}

@@ -1,8 +1,3 @@
-use Rattle.std.proofs.Common.{List, sym, ap, ◌∙◌, subst}
-use Rattle.std.specs.List.{All}
-use Rattle.cal_base.specs.declared.identity.ClientId.{ClientId}
-use Rattle.token_kind.specs.declared.revoke.Revoke.{Revoke}
-use Rattle.revocation.specs.Formed.{IsRevoke}
 use Rattle.revocation.specs.Revokes.{owners}
 use Rattle.revocation.specs.Waiting.{asked_at}
 use Rattle.revocation.proofs.Formed.{all_formed}

@@ -1,4 +1,4 @@
-use Rattle.std.proofs.Common.{◌≡◌, ◌∙◌, ℕ, Bool, false, List, ◌∷◌, Option, Some, None, length, replicate, suc, ap, arith, refl}
+use Rattle.std.proofs.Common.{◌≡◌, ◌∙◌, Bool, false, List, Option, None, length, suc, ap}
 use Rattle.std.proofs.lemmas.List.{length-replicate}
 use Rattle.tree_law.specs.declared.descriptor.Descriptor.{Descriptor}
 use Rattle.tree_law.specs.declared.node.Node.{Node}

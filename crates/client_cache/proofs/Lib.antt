@@ -1,4 +1,5 @@
 pub mod Answerable
+pub mod NameOrder
 pub mod Reported
 pub mod TreeNeeds
 pub mod Walks

@@ -13,6 +13,7 @@ use Rattle.token_kind.specs.declared.hold.Hold.{Hold}
 use Rattle.token_kind.specs.declared.hold.Hold.TheVariants.{None as Nothing, Read, Write}
 use Rattle.client_cache.specs.declared.cached_inode.CachedInode.{CachedInode}
 use Rattle.client_cache.specs.declared.flushes.Left.{Left}
+use Rattle.client_cache.specs.ByName.{AscendByName}
 use Rattle.client_cache.specs.Holds.{hold_in, is_held, with_hold}
 use Rattle.client_cache.specs.Known.{Known, inode_at}
 
@@ -49,10 +50,10 @@ after_take known item = record {
   last_flush = known.last_flush;
 }
 
--- bytes that a file may have
+-- what may come with a grant: entries that ascend by name, bytes that a file may have, or their size
 abbrev pub IsContent : Content → Type 0
 IsContent Empty = ⊤
-IsContent (Entries entries) = ⊤
+IsContent (Entries entries) = AscendByName entries
 IsContent (Bytes bytes) = length bytes ≤ 262144
 IsContent (Size size) = size ≤ 262144
 

@@ -1,3 +1,4 @@
+pub mod ByName
 pub mod Holds
 pub mod Known
 pub mod Changes

@@ -111,7 +111,10 @@ impl Cache {
         ensures { IfOk result (λ reply. listing_in (part_of self.now) ino IsDirectory ≡ Some reply) }
     {
         match self.entries(ino) {
-            Some(entries) => Ok(Reply::Names(names_of(*self.inodes.allocator(), entries)?)),
+            Some(entries) => Ok(Reply::Names(names_of(
+                *self.inodes.allocator(),
+                entries.as_slice(),
+            )?)),
             None => unreachable!(),
         }
     }

@@ -105,8 +105,8 @@ impl Cache {
     /// Takes an item of a grant: its hold is that of its class, and what came along is known. Where a
     /// flush of the file is outstanding, it leaves the granted hold too: a server that serves the call
     /// before it takes the flush again counts on the hold, which would otherwise be lost as the flush is
-    /// done. An item without content is of a class in which something is held, or of Open. It takes no
-    /// memory.
+    /// done. Entries that come along strictly ascend by name, as a message spells them. An item without
+    /// content is of a class in which something is held, or of Open. It takes no memory.
     pub fn take(&mut self, item: GrantItem)
         requires ino { item.ino.0 < 512 }
         requires content { IsContent item.content }

@@ -3,8 +3,9 @@ ghost use Rattle.token_kind.specs.declared.«class».Class.TheVariants.{Attr, Da
 ghost use Rattle.client_cache.specs.Known.{nothing_known};
 ghost use Rattle.client_cache.specs.Changes.{IsContent, flushed_inode, forgotten, granted, holding, left_with, lowered, with_content};
 
+use crate::entries::Entries;
 use crate::holds::Holds;
-use cal_base::{Blob, EntryList};
+use cal_base::Blob;
 use delayed_write::Delayed;
 use std::alloc::Global;
 use token_kind::{Class, Content, Hold};
@@ -14,7 +15,7 @@ use token_kind::{Class, Content, Hold};
 #[derive(Drop)]
 pub struct CachedInode {
     pub(crate) holds: Holds,
-    pub(crate) entries: EntryList,
+    pub(crate) entries: Entries,
     pub(crate) file: Delayed,
     pub(crate) size: u32,
 }
@@ -26,7 +27,7 @@ impl CachedInode {
     {
         CachedInode {
             holds: Holds::none(),
-            entries: EntryList::new(alloc),
+            entries: Entries::none(alloc),
             file: Delayed::new(Blob::new(alloc)),
             size: 0,
         }
@@ -48,7 +49,7 @@ impl CachedInode {
     {
         match content {
             Content::Nothing => {}
-            Content::Names(entries) => self.entries = entries,
+            Content::Names(entries) => self.entries = Entries::new(entries),
             Content::Bytes(bytes) => self.file = Delayed::new(bytes),
             Content::Size(size) => self.size = size,
         }
@@ -88,7 +89,7 @@ impl CachedInode {
         ensures { self.new ≡ forgotten class self.old }
     {
         match class {
-            Class::Names => self.entries = EntryList::new(alloc),
+            Class::Names => self.entries = Entries::none(alloc),
             Class::Data => self.file = Delayed::new(Blob::new(alloc)),
             Class::Attr => self.size = 0,
             Class::Open => {}

@@ -6,6 +6,7 @@ mod answer;
 mod cache;
 mod cached_inode;
 mod covers;
+mod entries;
 mod flushes;
 mod holds;
 mod law;
@@ -15,6 +16,7 @@ mod tests;
 
 pub use cache::Cache;
 pub use cached_inode::CachedInode;
+pub use entries::Entries;
 pub use flushes::Left;
 pub use holds::Holds;
 pub use law::a_cache_answers_as_the_tree;

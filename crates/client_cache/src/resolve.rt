@@ -7,8 +7,9 @@ ghost use Rattle.client_cache.specs.Covered.{file_of, target_of};
 ghost use Rattle.client_cache.specs.Known.{part_of};
 
 use crate::cache::Cache;
+use crate::entries::Entries;
 use crate::holds::is_held;
-use cal_base::{Blob, DirectoryEntry, EntryKind, FILE_SIZE, Ino};
+use cal_base::{Blob, EntryKind, FILE_SIZE, Ino};
 use tree_law::{Descriptor, Mode, Path, Why};
 
 /// Where resolving stands: an inode and what it is, or the first refusal; none where entries on the
@@ -65,13 +66,13 @@ impl Cache {
     }
 
     /// The entries of a directory, where they are held.
-    pub(crate) fn entries(&self, ino: Ino) -> Option<&[DirectoryEntry]>
+    pub(crate) fn entries(&self, ino: Ino) -> Option<&Entries>
         ensures { option_map (λ entries. entries.now) result ≡ (part_of self.now).entries ino }
     {
         match self.inodes.get(ino.0 as usize) {
             Some(inode) => {
                 if is_held(inode.holds.names) {
-                    Some(inode.entries.as_slice())
+                    Some(&inode.entries)
                 } else {
                     None
                 }
@@ -176,27 +177,13 @@ fn first_unused(table: &[Option<Descriptor>]) -> Option<usize>
 }
 
 /// What an entry with a name tells.
-fn found_in(entries: &[DirectoryEntry], name: &Blob) -> Result<(Ino, EntryKind), Why>
+fn found_in(entries: &Entries, name: &Blob) -> Result<(Ino, EntryKind), Why>
     ensures { result ≡ found_in entries.now name.now }
 {
-    match find_entry(entries, name) {
+    match entries.find(name) {
         Some(entry) => Ok((entry.ino, entry.kind)),
         None => Err(Why::NoEnt),
     }
-}
-
-/// The entry with a name.
-fn find_entry<'a>(entries: &'a [DirectoryEntry], name: &Blob) -> Option<&'a DirectoryEntry>
-    ensures { option_map (λ entry. entry.now) result ≡ find (λ entry. pointwise nat_eq entry.name name.now) entries.now }
-{
-    entries.iter().find(|entry| is_named(&entry.name, name))
-}
-
-/// Whether two names are one.
-fn is_named(name: &Blob, other: &Blob) -> bool
-    ensures { result ≡ pointwise nat_eq name.now other.now }
-{
-    name == other
 }
 
 /// Whether bytes from an offset on end past the limit of a file.

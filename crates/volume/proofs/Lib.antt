@@ -1,0 +1,5 @@
+pub mod Each
+pub mod Empty
+pub mod First
+pub mod Formatted
+pub mod HeadLemmas

@@ -1,0 +1,51 @@
+-- What the sectors of a volume spell. All of it is said of sectors that were replayed, so that no
+-- transaction is under way.
+use Rattle.std.specs.Prelude.{◌≡◌, ◌+◌, ◌*◌, ◌/◌, ◌%◌, ◌<◌, ◌==◌, ℕ, Bool, List, length, slice_get, slice_index, Option, Some, if◌then◌else◌}
+use Rattle.directory.specs.Block.{SpellsBlock}
+use Rattle.directory.specs.Directory.{IsDirectory, block_slots}
+use Rattle.directory.specs.declared.entry.DirEntry.{DirEntry}
+use Rattle.inode.specs.Inode.{SpellsInode}
+use Rattle.inode.specs.declared.inode.Inode.{Inode}
+use Rattle.inode.specs.declared.inode.Kind.TheVariants.{Dir}
+use Rattle.journal.specs.Layout.{sector}
+use Rattle.request_log.specs.Slot.{SpellsSlot}
+use Rattle.request_log.specs.declared.slot.Slot.{Slot}
+use Rattle.space_map.specs.SpaceMap.{SpellsMap}
+use Rattle.volume.specs.Head.{SpellsHead}
+
+-- the count of clients; for each of 2,048 blocks whether it is free; the slots of 16 clients; 512 inodes;
+-- and of each directory the slots of its blocks
+pub record Volume : Type 0 where
+  pub clients : ℕ
+  pub free : List Bool
+  pub slots : List Slot
+  pub inodes : List Inode
+  pub directories : ℕ → List (Option DirEntry)
+
+-- the sector at which a pointer points: pointer 1 is data block 0, in sector 548
+abbrev pub pointed : List (List ℕ) → ℕ → List ℕ
+pointed sectors pointer = sector sectors (547 + pointer)
+
+-- a byte of a file, by its pointers: 0 in a hole
+abbrev pub byte_behind : List (List ℕ) → ℕ → ℕ → ℕ
+byte_behind sectors pointer i = if pointer == 0 then 0 else slice_index (pointed sectors pointer) (i % 4096)
+
+abbrev pub file_byte : List (List ℕ) → Inode → ℕ → ℕ
+file_byte sectors inode i = byte_behind sectors (slice_index inode.blocks (i / 4096)) i
+
+-- a directory's slots are those of its blocks, in order
+pub record SpellsDirectory (sectors : List (List ℕ)) (inode : Inode) (slots : List (Option DirEntry)) : Type 0 where
+  pub directory : IsDirectory slots
+  pub count : 4096 * length slots ≡ 128 * inode.size
+  pub blocks : (block : ℕ) → 128 * block < length slots → SpellsBlock (pointed sectors (slice_index inode.blocks block)) (block_slots slots block)
+
+-- The sectors spell a volume: the head, the map, the slots, the inodes and the blocks of directories are in
+-- their grammar.
+pub record SpellsVolume (sectors : List (List ℕ)) (v : Volume) : Type 0 where
+  pub head : SpellsHead (sector sectors 0) v.clients
+  pub map : SpellsMap (sector sectors 19) v.free
+  pub slot_count : length v.slots ≡ 16
+  pub slots : (client : ℕ) (slot : Slot) → slice_get v.slots client ≡ Some slot → SpellsSlot (sector sectors (20 + client)) slot
+  pub inode_count : length v.inodes ≡ 512
+  pub inodes : (number : ℕ) (inode : Inode) → slice_get v.inodes number ≡ Some inode → SpellsInode (sector sectors (36 + number)) inode
+  pub directories : (number : ℕ) (inode : Inode) → slice_get v.inodes number ≡ Some inode → inode.kind ≡ Dir → SpellsDirectory sectors inode (v.directories number)

@@ -135,7 +135,7 @@ moving_lands tree path goal ino from place file directory named done =
       | false ↦ λ e. subst (λ (b : Bool). moved (if b && below then Err Inval else landed) ≡ Done → Landed tree (with_move tree (if b && below then Err Inval else landed) name last) from place ino name last)
           (sym (not_directory (node_at tree ino) (λ is. absurd (cc))))
           (landing_lands tree from place ino name last (looked_up (node_at tree place) last) refl file directory named
-          (λ here same. let yes_it : ((from.0 == place.0) && pointwise nat_eq name last) ≡ true = (λ i. eq-eqb from.0 place.0 here i && decides.1 same i) in absurd (cc)))
+          (λ here same. let both : ((from.0 == place.0) && pointwise nat_eq name last) ≡ true = (λ i. eq-eqb from.0 place.0 here i && decides.1 same i) in absurd (cc)))
     ] refl done
 
 -- a rename of a file that is carried out

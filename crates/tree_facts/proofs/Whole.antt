@@ -1,5 +1,5 @@
 -- A file without unflushed writes lasts as it is.
-use Rattle.std.proofs.Common.{◌≡◌, inl, inr, ℕ, zero, suc, true, false, List, [], ◌∷◌, map, Option, Some, None, Result, Ok, Err, get_or, set, replicate, refl, sym, ◌∙◌, subst, if◌then◌else◌}
+use Rattle.std.proofs.Common.{◌≡◌, inl, inr, ℕ, zero, suc, true, false, List, [], ◌∷◌, map, Option, Some, None, Result, Ok, Err, get_or, set, replicate, refl, sym, ap, ◌∙◌, subst, if◌then◌else◌}
 use Rattle.std.proofs.lemmas.Bool.{cases_lt}
 use Rattle.cal_base.specs.declared.identity.ClientId.{ClientId}
 use Rattle.cal_base.specs.declared.identity.Ino.{Ino}
@@ -21,6 +21,7 @@ use Rattle.tree_law.specs.declared.reply.Why.{Why}
 use Rattle.tree_law.specs.declared.entry.Entry.{Entry}
 use Rattle.tree_law.specs.declared.entry.Entry.TheVariants.{Call as Called, Flush, Purge}
 use Rattle.tree_law.proofs.IdleLemmas.{node_of, swept_node, swept_node_above}
+use Rattle.tree_law.specs.Kept.{kept_node, kept_tree}
 use Rattle.tree_law.specs.PartOf.{kind_of}
 use Rattle.cal_base.specs.declared.directory_entry.EntryKind.TheVariants.{File as IsFile}
 use Rattle.tree_facts.specs.Lasting.{LastsWhole, last_flushed}
@@ -181,3 +182,20 @@ whole_bytes None bytes whole lasts file none = absurd (cc)
 
 pub history_bytes : (history : List Entry) (ino : Ino) → IsLegal history → kind_of (node_at (tree_of history) ino) ≡ Some IsFile → writer_of (node_at (tree_of history) ino) ≡ None → contents_of (node_at (tree_of history) ino) ≡ last_flushed history ino
 history_bytes history ino legal file none = whole_bytes (node_at (tree_of history) ino) (last_flushed history ino) (history_whole history ino) (history_lasts history ino legal) file none
+
+kept_same : (node : Option Node) → LastsWhole node → writer_of node ≡ None → kept_node node ≡ node
+kept_same (Some (Directory names)) whole none = refl
+kept_same (Some (Regular file)) whole none = λ i. Some (Regular (record { contents = whole none i; kept = file.kept; writer = sym none i }))
+kept_same None whole none = refl
+
+kept_all : (nodes : List (Option Node)) → ((k : ℕ) → LastsWhole (get_or nodes k None)) → ((k : ℕ) → writer_of (get_or nodes k None) ≡ None) → map kept_node nodes ≡ nodes
+kept_all [] whole none = refl
+kept_all (place ∷ nodes) whole none =
+    let here : kept_node place ≡ place = kept_same place (whole zero) (none zero) in
+    let rest : map kept_node nodes ≡ nodes = kept_all nodes (λ k. whole (suc k)) (λ k. none (suc k)) in
+    λ i. here i ∷ rest i
+
+pub history_kept : (history : List Entry) → ((ino : Ino) → writer_of (node_at (tree_of history) ino) ≡ None) → kept_tree (tree_of history) ≡ tree_of history
+history_kept history none =
+    ap (λ (nodes : List (Option Node)). record { nodes = nodes; tables = (tree_of history).tables; purged = (tree_of history).purged })
+    (kept_all (tree_of history).nodes (all_whole history) (λ k. none (record { 0 = k })))

@@ -5,6 +5,7 @@ ghost use Rattle.cal_base.specs.declared.identity.Ino.{Ino};
 ghost use Rattle.tree_law.specs.Tree.{Tree, contents_of, node_at, table_of, writer_of};
 ghost use Rattle.tree_law.specs.Descriptors.{readable};
 ghost use Rattle.tree_law.specs.Resolve.{file_named, last_of, parent_of};
+ghost use Rattle.tree_law.specs.Kept.{kept_tree};
 ghost use Rattle.tree_law.specs.PartOf.{IsKind};
 ghost use Rattle.tree_law.specs.Answer.{answer};
 ghost use Rattle.tree_law.specs.Legal.{IsLegal, after, tree_of};
@@ -31,10 +32,11 @@ pub fn kept_is_what_flushes_leave()
 {}
 
 /// A file in which nobody has unflushed writes lasts as it is; in a legal history it holds what it held
-/// at its last flush.
+/// at its last flush. So where nobody has unflushed writes, what lasts is the whole tree.
 pub fn a_flushed_file_lasts_as_it_is()
     ensures whole { (history : List Entry) (ino : Ino) → LastsWhole (node_at (tree_of history) ino) }
     ensures bytes { (history : List Entry) (ino : Ino) → IsLegal history → IsKind (tree_of history) ino File → writer_of (node_at (tree_of history) ino) ≡ None → contents_of (node_at (tree_of history) ino) ≡ last_flushed history ino }
+    ensures all { (history : List Entry) → ((ino : Ino) → writer_of (node_at (tree_of history) ino) ≡ None) → kept_tree (tree_of history) ≡ tree_of history }
 {}
 
 /// After a write that is answered with its count, whoever has the file open for reading reads the bytes

@@ -30,10 +30,9 @@ length-to_each (suc n) first b = let h = length-to_each n (suc first) b in omega
 
 pub length-format_writes : (clients : ℕ) → length (format_writes clients) ≡ 531
 length-format_writes clients =
-    let a = length-append (to_each 1 1 blank ++ to_each 17 19 blank) (inode_writes ++ (0, head_sector clients) ∷ []) in
-    let b = length-append (to_each 1 1 blank) (to_each 17 19 blank) in
-    let c = length-append (to_each 511 37 blank) ((0, head_sector clients) ∷ []) in
-    omega (arith, a, b, c, length-to_each 1 1 blank, length-to_each 17 19 blank, length-to_each 511 37 blank)
+    let a = length-append ((1, blank) ∷ to_each 17 19 blank) (inode_writes ++ (0, head_sector clients) ∷ []) in
+    let b = length-append (to_each 511 37 blank) ((0, head_sector clients) ∷ []) in
+    omega (arith, a, b, length-to_each 17 19 blank, length-to_each 511 37 blank)
 
 -- the root is an inode
 pub root_is : IsInode root_inode

@@ -31,7 +31,7 @@ each_within (suc n) first (suc i) b x h room =
 
 -- the sectors step by step
 abbrev pub with_gate : List (List ℕ) → List (List ℕ)
-with_gate x = written x (to_each 1 1 blank)
+with_gate x = slice_set x 1 blank
 
 abbrev pub with_slots : List (List ℕ) → List (List ℕ)
 with_slots x = written (with_gate x) (to_each 17 19 blank)
@@ -47,7 +47,6 @@ by_steps x clients =
     let head = (0, head_sector clients) ∷ [] in
     sym (written-append x free_writes (inode_writes ++ head))
     ∙ sym (written-append (written x free_writes) inode_writes head)
-    ∙ ap (λ (y : List (List ℕ)). written (written y inode_writes) head) (sym (written-append x (to_each 1 1 blank) (to_each 17 19 blank)))
 
 -- the sectors of a formatted disk
 pub record IsFormatted (clients : ℕ) (x : List (List ℕ)) : Type 0 where
@@ -58,7 +57,7 @@ pub record IsFormatted (clients : ℕ) (x : List (List ℕ)) : Type 0 where
   pub inodes : (i : ℕ) → i < 511 → sector x (37 + i) ≡ blank
 
 slots_long : (x : List (List ℕ)) → length (with_slots x) ≡ length x
-slots_long x = length_written (to_each 17 19 blank) (with_gate x) ∙ length_written (to_each 1 1 blank) x
+slots_long x = length_written (to_each 17 19 blank) (with_gate x) ∙ length-set x 1 blank
 
 root_long : (x : List (List ℕ)) → length (with_root x) ≡ length x
 root_long x = length-set (with_slots x) 36 root_sector ∙ slots_long x
@@ -77,9 +76,9 @@ formatted x clients long = record {
   head = sector_same (with_inodes x) 0 (head_sector clients) (let l = inodes_long x in omega arith);
   gate = before_head x (head_sector clients) 1 (omega arith) (omega arith) (λ e. omega arith)
       ∙ each_apart 17 19 1 blank (with_gate x) (inl (omega arith))
-      ∙ each_within 1 1 0 blank x (omega arith) (omega arith);
+      ∙ sector_same x 1 blank (omega arith);
   free = λ i below. before_head x (head_sector clients) (19 + i) (omega arith) (omega arith) (λ e. omega arith)
-      ∙ each_within 17 19 i blank (with_gate x) below (let l = length_written (to_each 1 1 blank) x in omega arith);
+      ∙ each_within 17 19 i blank (with_gate x) below (let l = length-set x 1 blank in omega arith);
   root = sector_other (with_inodes x) 0 36 (head_sector clients) (λ e. omega arith)
       ∙ each_apart 511 37 36 blank (with_root x) (inl (omega arith))
       ∙ sector_same (with_slots x) 36 root_sector (let l = slots_long x in omega arith);

@@ -28,7 +28,7 @@ to_each (suc count) first bytes = (first, bytes) ∷ to_each count (suc first) b
 
 -- the gate, and then the map and the 16 slots
 abbrev pub free_writes : List (ℕ × List ℕ)
-free_writes = to_each 1 1 blank ++ to_each 17 19 blank
+free_writes = (1, blank) ∷ to_each 17 19 blank
 
 -- the root, and the 511 free inodes
 abbrev pub inode_writes : List (ℕ × List ℕ)

@@ -9,6 +9,24 @@ use fence::{Port, PortHalt};
 use inode::{Inode, Kind, write_inode};
 use shared_disk::PortDisk;
 
+/// The sector of the head.
+const HEAD: u32 = 0;
+
+/// The sector of the gate.
+const GATE: u32 = 1;
+
+/// The sector of the map. The slots of 16 clients stand behind it.
+const MAP: u32 = 19;
+
+/// Sectors of the map and the slots.
+const MAP_AND_SLOTS: u32 = 17;
+
+/// The sector of the root's inode. Those of the other inodes stand behind it.
+const ROOT: u32 = 36;
+
+/// Inodes other than the root.
+const FREE_INODES: u32 = 511;
+
 /// Writes a volume on which nothing has happened yet.
 pub(crate) fn write_volume<D: PortDisk>(
     port: &mut Port,
@@ -23,7 +41,7 @@ pub(crate) fn write_volume<D: PortDisk>(
     write_free(port, disk)?;
     write_inodes(port, disk)?;
     let head = head_with(clients);
-    write_one(port, disk, 0, &head)
+    write_one(port, disk, HEAD, &head)
 }
 
 /// Writes one sector.
@@ -64,8 +82,8 @@ fn write_free<D: PortDisk>(port: &mut Port, disk: &mut D) -> Result<(), PortHalt
     ensures { Runs port.old (D.means disk.old) (D.fault_count disk.old) free_writes result port.new (D.means disk.new) (D.fault_count disk.new) }
 {
     let blank = blank_sector();
-    write_each(port, disk, 1, 1, &blank)?;
-    write_each(port, disk, 19, 17, &blank)
+    write_one(port, disk, GATE, &blank)?;
+    write_each(port, disk, MAP, MAP_AND_SLOTS, &blank)
 }
 
 /// Writes the root and the free inodes.
@@ -75,8 +93,8 @@ fn write_inodes<D: PortDisk>(port: &mut Port, disk: &mut D) -> Result<(), PortHa
 {
     let root = first_root();
     let blank = blank_sector();
-    write_one(port, disk, 36, &root)?;
-    write_each(port, disk, 37, 511, &blank)
+    write_one(port, disk, ROOT, &root)?;
+    write_each(port, disk, ROOT + 1, FREE_INODES, &blank)
 }
 
 /// A sector of zeros.

@@ -1,6 +1,6 @@
-use Rattle.std.proofs.Common.{◌++◌, ◌∷◌, [], arith, length-append}
+use Rattle.std.proofs.Common.{◌++◌, ◌∷◌, [], arith}
 use Rattle.fence.proofs.RunsLemmas.{runs_then, runs_early, runs_passed}
-use Rattle.volume.specs.Format.{blank, format_writes, free_writes, head_sector, inode_writes, to_each}
+use Rattle.volume.specs.Format.{blank, format_writes, free_writes, head_sector, inode_writes}
 use Rattle.volume.proofs.Each.{length-to_each}
 use Rattle.volume.proofs.writes.write_volume.Goals as goal
 
@@ -12,9 +12,7 @@ returns-in_err-write_free g c =
 
 pub write_inodes-requires : goal.write_inodes-requires
 write_inodes-requires g c =
-    let a = length-to_each 1 1 blank in
     let b = length-to_each 17 19 blank in
-    let l = length-append (to_each 1 1 blank) (to_each 17 19 blank) in
     let r = c.in_ok-write_free.ensures.room in
     omega arith
 
@@ -27,10 +25,8 @@ returns-in_err-write_inodes g c =
 
 pub write_one-requires-clause-room : goal.write_one-requires-clause-room
 write_one-requires-clause-room g c =
-    let a = length-to_each 1 1 blank in
     let b = length-to_each 17 19 blank in
     let d = length-to_each 511 37 blank in
-    let l = length-append (to_each 1 1 blank) (to_each 17 19 blank) in
     let r = c.in_ok-write_free.ensures.room in
     let s = c.in_ok-write_inodes.ensures.room in
     omega arith

@@ -3,3 +3,4 @@ pub mod Empty
 pub mod First
 pub mod Formatted
 pub mod HeadLemmas
+pub mod OneVolume

@@ -49,3 +49,11 @@ pub record SpellsVolume (sectors : List (List ℕ)) (v : Volume) : Type 0 where
   pub inode_count : length v.inodes ≡ 512
   pub inodes : (number : ℕ) (inode : Inode) → slice_get v.inodes number ≡ Some inode → SpellsInode (sector sectors (36 + number)) inode
   pub directories : (number : ℕ) (inode : Inode) → slice_get v.inodes number ≡ Some inode → inode.kind ≡ Dir → SpellsDirectory sectors inode (v.directories number)
+
+-- two volumes are the same in all that sectors spell
+pub record AreSame (a b : Volume) : Type 0 where
+  pub clients : a.clients ≡ b.clients
+  pub free : a.free ≡ b.free
+  pub slots : a.slots ≡ b.slots
+  pub inodes : a.inodes ≡ b.inodes
+  pub directories : (number : ℕ) (inode : Inode) → slice_get a.inodes number ≡ Some inode → inode.kind ≡ Dir → a.directories number ≡ b.directories number

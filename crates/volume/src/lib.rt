@@ -13,4 +13,4 @@ mod writes;
 
 pub use formats::{a_format_is_531_writes, a_format_stands_for_no_history, format};
 pub use head::{BadHead, read_head, write_head};
-pub use law::one_head;
+pub use law::{one_head, one_volume};

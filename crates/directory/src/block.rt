@@ -8,24 +8,12 @@ ghost use Rattle.directory.specs.Block.{AreEntries, IsEntry, IsSlot, entry_bytes
 use crate::entry::{DirEntry, EntryName};
 use cal_base::{Ino, NAME_BYTES};
 use cal_fields::{SectorFields, is_zeros, padded_front, take_u8, take_u32};
+use tree_law::is_name;
 
 /// A sector spells no further block of this directory: a slot is outside its grammar, or its name
 /// stands already.
 #[derive(Clone, Copy, Debug, PartialEq, Eq)]
 pub struct BadBlock;
-
-/// Whether these bytes are a name of the path grammar.
-pub(crate) fn is_name(bytes: &[u8]) -> bool
-    ensures { IsTrue result ↔ IsName bytes.now }
-{
-    !bytes.is_empty()
-        && bytes.len() <= NAME_BYTES
-        && bytes
-            .iter()
-            .all(|byte| *byte >= 33 && *byte <= 126 && *byte != 47)
-        && bytes != b".".as_slice()
-        && bytes != b"..".as_slice()
-}
 
 /// What a slot of 32 bytes holds.
 pub(crate) fn read_slot(bytes: &[u8]) -> Result<Option<DirEntry>, BadBlock>

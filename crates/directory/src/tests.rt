@@ -1,7 +1,7 @@
-use crate::block::is_name;
 use crate::{BadBlock, DirBlocks, DirFull};
 use cal_base::{Ino, Sector};
 use std::test::Fail;
+use tree_law::is_name;
 
 /// Inserts an entry, where its name is one and doesn't stand; whether there was room for it.
 fn put(blocks: &mut DirBlocks, name: &[u8], ino: u32) -> Option<Result<(), DirFull>> {

@@ -78,8 +78,8 @@ impl From<AllocError> for ReadPathError {
     }
 }
 
-/// Whether these bytes are a name.
-fn is_name(bytes: &[u8]) -> bool
+/// Whether these bytes are a name: 1 to 27 graphic ASCII bytes without `/`, and neither `.` nor `..`.
+pub fn is_name(bytes: &[u8]) -> bool
     ensures { IsTrue result ↔ IsName bytes.now }
 {
     !bytes.is_empty()

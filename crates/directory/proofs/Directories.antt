@@ -159,7 +159,7 @@ unfolding with_room
 room_free slots e = grind (arith, nat_tests)
 
 -- empty slots at the end are no entries
-entry_at-room : (slots : List (Option DirEntry)) (count place : ℕ) → entry_at (slots ++ replicate count None) place ≡ entry_at slots place
+pub entry_at-room : (slots : List (Option DirEntry)) (count place : ℕ) → entry_at (slots ++ replicate count None) place ≡ entry_at slots place
 entry_at-room [] zero place = refl
 entry_at-room [] (suc count) zero = refl
 entry_at-room [] (suc count) (suc place) = entry_at-room [] count place
@@ -174,7 +174,7 @@ length-slots_bytes (x ∷ slots) are =
     omega (arith, length-append (slot_bytes x) (slots_bytes slots), length-slot_bytes x (slot_is (x ∷ slots) 0 are), length-slots_bytes slots (λ p e h. are (suc p) e h))
 
 -- a sector that is full has no zeros behind
-padded_full : (bytes : List ℕ) → length bytes ≡ 4096 → padded 4096 bytes ≡ bytes
+pub padded_full : (bytes : List ℕ) → length bytes ≡ 4096 → padded 4096 bytes ≡ bytes
 unfolding padded zeros
 padded_full bytes size = (let none : 4096 - length bytes ≡ 0 = omega arith in ap (λ (n : ℕ). bytes ++ replicate n 0) none ∙ append-nil bytes)
 

@@ -5,3 +5,4 @@ pub mod Tables
 pub mod Loads
 pub mod Directories
 pub mod Laws
+pub mod Edits

@@ -51,6 +51,10 @@ pub record Names (slots : List (Option DirEntry)) (name : List ℕ) (ino : ℕ) 
 abbrev pub IsAbsent : List (Option DirEntry) → List ℕ → Type 0
 IsAbsent slots name = (place : ℕ) (e : DirEntry) → entry_at slots place ≡ Some e → e.name ≢ name
 
+-- a name stands nowhere but maybe at this place
+abbrev pub IsAlone : List (Option DirEntry) → List ℕ → ℕ → Type 0
+IsAlone slots name place = (at : ℕ) (e : DirEntry) → entry_at slots at ≡ Some e → e.name ≡ name → at ≡ place
+
 -- how many slots have an entry
 unfoldable pub entry_count : List (Option DirEntry) → ℕ
 entry_count [] = 0

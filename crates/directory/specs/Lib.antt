@@ -1,4 +1,5 @@
 pub mod Block
+pub mod Changed
 pub mod Directory
 pub mod Index
 pub mod Loading

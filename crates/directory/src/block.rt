@@ -77,7 +77,7 @@ fn read_entry(bytes: &[u8]) -> Result<DirEntry, BadBlock>
 }
 
 /// Writes an entry into the next 32 bytes.
-fn put_entry(fields: &mut SectorFields, entry: &DirEntry)
+pub(crate) fn put_entry(fields: &mut SectorFields, entry: &DirEntry)
     requires room { length fields.old + 32 ≤ 4096 }
     requires entry { length entry.now.name ≤ 27 }
     ensures { fields.new ≡ fields.old ++ padded 32 (entry_bytes entry.now) }

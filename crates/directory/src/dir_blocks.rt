@@ -1,13 +1,15 @@
-ghost use Rattle.std.specs.Prelude.{◌≡◌, ◌≢◌, ◌==◌, ◌≤◌, ◌<◌, ◌+◌, ◌*◌, ◌%◌, ◌↔◌, ℕ, [], List, Option, Some, None, length, IfOk, IsErr, OnOk, OnErr, IfSome, IfNone, IsTrue};
+ghost use Rattle.std.specs.Prelude.{◌≡◌, ◌≢◌, ◌==◌, ◌≤◌, ◌<◌, ◌+◌, ◌++◌, ◌*◌, ◌%◌, ◌↔◌, ℕ, [], List, Option, Some, None, length, replicate, slice_set, IfOk, IsErr, OnOk, OnErr, IfSome, IfNone, IsTrue};
 ghost use Rattle.tree_law.specs.Path.{IsName};
 ghost use Rattle.directory.specs.declared.entry.DirEntry.{DirEntry};
-ghost use Rattle.directory.specs.Block.{SpellsBlock, entry_at};
-ghost use Rattle.directory.specs.Directory.{Continues, Grows, IsAbsent, IsDirectory, Names, Removes, Replaces, Stands, StandsAt, block_slots, entry_count, first_empty, ino_of, inserted, with_room};
+ghost use Rattle.directory.specs.Block.{AreEntries, IsEntry, SpellsBlock, entry_at};
+ghost use Rattle.directory.specs.Changed.{after};
+ghost use Rattle.directory.specs.Directory.{Continues, Grows, IsAbsent, IsAlone, IsDirectory, Names, Removes, Replaces, Stands, StandsAt, block_slots, entry_count, first_empty, ino_of, inserted, with_room};
 ghost use Rattle.directory.specs.Index.{IsIndex};
 
 use crate::block::{BadBlock, put_slots};
 use crate::entry::{DirEntry, EntryName};
 use crate::load::{cut, push_slots};
+use crate::slot_changes::{SlotChanges, put_slots_after};
 use crate::slot_table::SlotTable;
 use cal_base::{DIRECTORY_ENTRIES, Ino, Oom, Sector};
 use cal_fields::SectorFields;
@@ -82,6 +84,7 @@ impl DirBlocks {
     pub fn find(&self, name: &[u8]) -> Option<Ino>
         ensures named { IfSome result (λ ino. Names self.now name.now ino.0) }
         ensures absent { IfNone result (IsAbsent self.now name.now) }
+        ensures directory { IsDirectory self.now }
     {
         match self.table.find(name) {
             Some(place) => ino_in(&self.table.slots()[place]),
@@ -94,6 +97,7 @@ impl DirBlocks {
     pub fn place(&self, name: &[u8]) -> Option<usize>
         ensures found { IfSome result (StandsAt self.now name.now) }
         ensures absent { IfNone result (IsAbsent self.now name.now) }
+        ensures directory { IsDirectory self.now }
     {
         self.table.find(name)
     }
@@ -108,7 +112,8 @@ impl DirBlocks {
 
     /// The places of the entries in the order of their names, by bytes.
     pub fn by_name(&self) -> &[u16]
-        ensures { IsIndex self.now result.now }
+        ensures index { IsIndex self.now result.now }
+        ensures directory { IsDirectory self.now }
     {
         self.table.index()
     }
@@ -160,6 +165,58 @@ impl DirBlocks {
         }
     }
 
+    /// Adds a block of empty slots behind the others.
+    pub fn grow(&mut self)
+        requires { length self.old < 1024 }
+        ensures { self.new ≡ self.old ++ replicate 128 None }
+    {
+        self.table.push_block();
+    }
+
+    /// Puts an entry into the slot at a place, whatever stood there. Its name stands nowhere else.
+    pub fn set(&mut self, place: usize, entry: &DirEntry)
+        requires within { place < length self.old }
+        requires entry { IsEntry entry.now }
+        requires alone { IsAlone self.old entry.now.name place }
+        ensures { self.new ≡ slice_set self.old place (Some entry.now) }
+    {
+        self.table.set(place, entry.copied());
+    }
+
+    /// Empties the slot at a place, whatever stood there.
+    pub fn clear(&mut self, place: usize)
+        requires { place < length self.old }
+        ensures { self.new ≡ slice_set self.old place None }
+    {
+        self.table.clear_any(place);
+    }
+
+    /// Takes all blocks away, and keeps the room.
+    pub fn clear_all(&mut self)
+        ensures { self.new ≡ [] }
+    {
+        self.table.clear_all();
+    }
+
+    /// The place of the first empty slot; the count of slots where none is empty.
+    pub fn first_empty(&self) -> usize
+        ensures first { result ≡ first_empty self.now }
+        ensures directory { IsDirectory self.now }
+    {
+        self.table.first_empty()
+    }
+
+    /// Writes the one sector that spells a block as it will be after the changes of an edit.
+    pub fn store_changed(&self, block: u8, changes: SlotChanges<'_>, into: &mut Sector)
+        requires within { 128 * block < length (after changes self.now) }
+        requires entries { AreEntries (after changes self.now) }
+        ensures { SpellsBlock into.new (block_slots (after changes.entry self.now) block) }
+    {
+        let mut fields = SectorFields::new();
+        put_slots_after(&mut fields, self.table.slots(), changes, block);
+        fields.finish(into);
+    }
+
     /// Whether the next insertion adds a block: no slot is empty, and the directory isn't full.
     pub fn grows(&self) -> bool
         ensures { IsTrue result ↔ Grows self.now }
@@ -172,6 +229,7 @@ impl DirBlocks {
     pub fn count(&self) -> u16
         ensures count { result ≡ entry_count self.now }
         ensures few { result ≤ 1024 }
+        ensures directory { IsDirectory self.now }
     {
         self.table.count() as u16
     }

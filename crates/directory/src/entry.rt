@@ -59,3 +59,16 @@ pub struct DirEntry {
     /// The inode that it names, 1 to 511.
     pub ino: Ino,
 }
+
+impl DirEntry {
+    /// The same entry once more.
+    pub(crate) fn copied(&self) -> DirEntry
+        requires { length self.now.name ≤ 27 }
+        ensures { result ≡ self.now }
+    {
+        DirEntry {
+            name: EntryName::new(self.name.as_slice()),
+            ino: self.ino,
+        }
+    }
+}

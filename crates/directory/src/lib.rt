@@ -9,6 +9,7 @@ mod entry;
 mod index;
 mod law;
 mod load;
+mod slot_changes;
 mod slot_table;
 #[cfg(test)]
 mod tests;
@@ -17,3 +18,4 @@ pub use block::BadBlock;
 pub use dir_blocks::{DirBlocks, DirFull};
 pub use entry::{DirEntry, EntryName};
 pub use law::{one_block, one_inode_a_name, stored_loads_back};
+pub use slot_changes::{PlacedEntry, SlotChanges};

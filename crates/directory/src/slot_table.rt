@@ -1,7 +1,7 @@
 ghost use Rattle.std.specs.Prelude.{◌≡◌, ◌≢◌, ◌≤◌, ◌<◌, ◌+◌, ◌++◌, ◌∷◌, [], ℕ, None, Some, length, replicate, slice_set, take, ◌-◌, IfOk, IfSome, IfNone, OnOk, OnErr};
 ghost use Rattle.directory.specs.declared.entry.DirEntry.{DirEntry};
 ghost use Rattle.directory.specs.Block.{entry_at};
-ghost use Rattle.directory.specs.Directory.{IsAbsent, AreDistinct, Repeats, Replaces, Stands, StandsAt, entry_count, first_empty, with_ino};
+ghost use Rattle.directory.specs.Directory.{IsAbsent, IsAlone, AreDistinct, Repeats, Replaces, Stands, StandsAt, entry_count, first_empty, with_ino};
 ghost use Rattle.directory.specs.Index.{IsIndex, IsTaken};
 
 use crate::block::BadBlock;
@@ -149,13 +149,32 @@ impl SlotTable {
     }
 
     /// Empties the slot at a place.
-    fn clear_any(&mut self, place: usize)
+    pub(crate) fn clear_any(&mut self, place: usize)
         requires { place < length self.old }
         ensures { self.new ≡ slice_set self.old place None }
     {
         if self.slots[place].is_some() {
             self.clear(place);
         }
+    }
+
+    /// Puts an entry into the slot at a place, whatever stood there. Its name stands nowhere else.
+    pub(crate) fn set(&mut self, place: usize, entry: DirEntry)
+        requires within { place < length self.old }
+        requires alone { IsAlone self.old entry.name place }
+        ensures { self.new ≡ slice_set self.old place (Some entry) }
+    {
+        self.clear_any(place);
+        self.fill(place, entry);
+    }
+
+    /// Takes all slots away.
+    pub(crate) fn clear_all(&mut self)
+        ensures { self.new ≡ [] }
+    {
+        self.slots.clear();
+        self.index.clear();
+        self.hint = 0;
     }
 
     /// Puts another inode into the slot of a name, where the name stands.

@@ -75,3 +75,31 @@ fn directory_is_full_at_1024_entries(rt: HostRuntime) -> Result<(), Fail> {
     assert!(rt; !blocks.grows());
     Ok(())
 }
+
+/// Adds a block, where there is room for it.
+fn grow(blocks: &mut DirBlocks) {
+    if blocks.slots().len() < 1_024 {
+        blocks.grow();
+    }
+}
+
+/// Empties a slot, where it is there.
+fn clear(blocks: &mut DirBlocks, place: usize) {
+    if place < blocks.slots().len() {
+        blocks.clear(place);
+    }
+}
+
+#[test]
+fn slot_is_emptied_by_its_place(rt: HostRuntime) -> Result<(), Fail> {
+    let mut blocks = DirBlocks::room(rt.alloc()).ok().ok_or("no memory")?;
+    assert_eq!(rt; put(&mut blocks, b"b", 7), Some(Ok(())));
+    grow(&mut blocks);
+    assert_eq!(rt; (blocks.slots().len(), blocks.first_empty()), (256, 1));
+    clear(&mut blocks, 0);
+    clear(&mut blocks, 0);
+    assert_eq!(rt; (blocks.find(b"b"), blocks.first_empty()), (None, 0));
+    blocks.clear_all();
+    assert_eq!(rt; (blocks.count(), blocks.slots().len()), (0, 0));
+    Ok(())
+}

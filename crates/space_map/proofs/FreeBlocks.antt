@@ -1,17 +1,19 @@
 -- The blocks of many bytes.
-use Rattle.std.proofs.Common.{◌≡◌, ◌+◌, ◌-◌, ◌*◌, ◌/◌, ◌%◌, ◌^◌, ◌<◌, ◌≤◌, ◌++◌, ℕ, zero, suc, Bool, false, Some, List, [], ◌∷◌, length, take, drop, slice_index, get_or, count_by, cond, append-nil, length-append, refl, sym, ap, ◌∙◌, arith, inl, inr}
+use Rattle.std.proofs.Common.{◌≡◌, ◌+◌, ◌-◌, ◌*◌, ◌/◌, ◌%◌, ◌^◌, ◌<◌, ◌≤◌, ◌++◌, ℕ, zero, suc, Bool, true, false, None, Some, List, replicate, [], ◌∷◌, length, take, drop, slice_index, get_or, count_by, cond, append-nil, length-append, refl, sym, ap, ◌∙◌, arith, inl, inr}
 use Rattle.std.specs.List.{slice_get, slice_set}
 use Rattle.std.proofs.lemmas.Bool.{cases_lt}
 use Rattle.std.proofs.Math.Nat.{pow-succ'}
 use Rattle.std.proofs.lemmas.Grind.{flat_map-append}
-use Rattle.std.proofs.lemmas.List.{drop_at, get_or-drop, get_or_append_left, take_at, set-append_left, set-append_right, take_more}
+use Rattle.std.proofs.lemmas.List.{drop_at, get_or-drop, get_or_append_left, take_at, set-append_left, replicate-append-replicate, set-append_right, take_more}
 use Rattle.std.proofs.lemmas.List.Sums.{sum_by-append}
 use Rattle.std.specs.Int.RustNames.{count_ones}
-use Rattle.std.specs.List.{flat_map}
+use Rattle.std.specs.List.{flat_map, position}
+use Rattle.std.proofs.lemmas.Option.{get_or_from_slice_get, slice_get_within}
 use Rattle.byteorder.specs.Endian.{little_from, little_number}
 use Rattle.byteorder.specs.Numbers.{little_from-lt}
 use Rattle.cal_fields.specs.Padded.{padded, zeros}
 use Rattle.space_map.specs.SpaceMap.{AreFull, IsLeastFree, SpellsMap, free_bits, free_blocks}
+use Rattle.space_map.proofs.First.{position_at, position_none}
 use Rattle.space_map.proofs.FreeBits.{count-free_bits, free_bits-cancel, length-free_bits}
 
 get_left : (xs ys : List Bool) (place : ℕ) → place < length xs → slice_get (xs ++ ys) place ≡ slice_get xs place
@@ -179,3 +181,30 @@ unfolding free_blocks
 length-free_blocks [] = refl
 length-free_blocks (byte ∷ bytes) =
     omega (arith, length-append (free_bits 8 byte) (flat_map (free_bits 8) bytes), length-free_bits 8 byte, length-free_blocks bytes)
+
+eight_free : free_bits 8 0 ≡ replicate 8 true
+unfolding free_bits
+eight_free = refl
+
+-- where all bytes are zero, all blocks are free
+pub all_free : (n : ℕ) → free_blocks (replicate n 0) ≡ replicate (8 * n) true
+unfolding free_blocks
+all_free zero = refl
+all_free (suc n) =
+    ap (λ (xs : List Bool). xs ++ flat_map (free_bits 8) (replicate n 0)) eight_free
+    ∙ ap (λ (xs : List Bool). replicate 8 true ++ xs) (all_free n)
+    ∙ replicate-append-replicate 8 (8 * n) true
+    ∙ ap (λ (k : ℕ). replicate {A = Bool} k true) (let e : 8 + 8 * n ≡ 8 * suc n = omega arith in e)
+
+-- the least free block is the first
+pub least_is_first : (free : List Bool) (block : ℕ) → IsLeastFree free block → position (λ free. free) free ≡ Some block
+least_is_first free block least =
+    position_at (λ (b : Bool). b) free block false (slice_get_within free block true least.is_free) (get_or_from_slice_get free block true false least.is_free)
+    (λ below low. get_or_from_slice_get free below false false (least.least below low))
+
+-- where no block is free, none is the first
+pub none_is_first : (bytes : List ℕ) → length bytes ≡ 256 → AreFull bytes 256 → position (λ free. free) (free_blocks bytes) ≡ None
+none_is_first bytes size full =
+    let count = length-free_blocks bytes in
+    position_none (λ (b : Bool). b) (free_blocks bytes) false
+    (λ place low. get_or_from_slice_get (free_blocks bytes) place false false (none_free bytes 256 place full (omega arith) (omega arith)))

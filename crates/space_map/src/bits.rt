@@ -51,6 +51,18 @@ fn lowest_free(byte: u8) -> usize
     byte.trailing_ones() as usize
 }
 
+/// The least free block of the first byte in which one is free.
+pub(crate) fn least_block(bytes: &[u8], at: usize) -> usize
+    requires within { at < length bytes.now }
+    requires few { length bytes.now ≤ 256 }
+    requires full { AreFull bytes.now at }
+    requires open { slice_index bytes.now at ≢ 255 }
+    ensures within { result < 8 * length bytes.now }
+    ensures least { IsLeastFree (free_blocks bytes.now) result }
+{
+    8 * at + lowest_free(bytes[at])
+}
+
 /// The byte with a block in use.
 fn with_used(byte: u8, bit: usize) -> u8
     requires { bit < 8 }
@@ -92,6 +104,16 @@ pub(crate) fn give_block(bytes: &mut [u8], block: usize)
 {
     let at = block / 8;
     bytes[at] = with_free(bytes[at], block % 8);
+}
+
+/// Takes a block.
+pub(crate) fn use_block(bytes: &mut [u8], block: usize)
+    requires { block < 8 * length bytes.old }
+    ensures used { free_blocks bytes.new ≡ slice_set (free_blocks bytes.old) block false }
+    ensures full { (count : ℕ) → 8 * count ≤ block → AreFull bytes.old count → AreFull bytes.new count }
+{
+    let at = block / 8;
+    bytes[at] = with_used(bytes[at], block % 8);
 }
 
 /// How many blocks are free.

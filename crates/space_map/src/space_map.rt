@@ -1,7 +1,10 @@
-ghost use Rattle.std.specs.Prelude.{◌≡◌, ◌<◌, ℕ, Bool, true, false, Some, List, count_by, length, slice_get, slice_set, IfSome, IfNone, IfOk, IsOkAnd};
+ghost use Rattle.std.specs.Prelude.{◌≡◌, ◌<◌, ℕ, Bool, true, false, Some, List, count_by, length, replicate, slice_get, slice_set, IfSome, IfNone, IfOk, IsOkAnd};
+ghost use Rattle.std.specs.List.{position};
 ghost use Rattle.space_map.specs.SpaceMap.{IsLeastFree, SpellsMap};
 
-use crate::bits::{count_free, first_open_byte, first_open_word, give_block, take_block};
+use crate::bits::{
+    count_free, first_open_byte, first_open_word, give_block, least_block, take_block, use_block,
+};
 use cal_base::Sector;
 use cal_fields::{SectorFields, padded_front};
 use std::marker::Model;
@@ -30,6 +33,26 @@ impl Model for SpaceMap {
 }
 
 impl SpaceMap {
+    /// The map where all blocks are free.
+    pub fn new() -> SpaceMap
+        ensures { result ≡ replicate 2048 true }
+    {
+        SpaceMap {
+            bytes: [0; 256],
+            hint: 0,
+        }
+    }
+
+    /// The same map once more.
+    pub fn copy(&self) -> SpaceMap
+        ensures { result ≡ self.now }
+    {
+        SpaceMap {
+            bytes: self.bytes,
+            hint: self.hint,
+        }
+    }
+
     /// The map that a sector spells: bit `b % 8`, the least significant first, of byte `b / 8` is 1
     /// where block `b` is in use, and all behind the 256 bytes is zero. `BadMap` exactly where it
     /// isn't.
@@ -62,6 +85,18 @@ impl SpaceMap {
         count_free(&self.bytes)
     }
 
+    /// The least free block; `None` exactly where no block is free.
+    pub fn least(&self) -> Option<u16>
+        ensures { result ≡ position (λ free. free) self.now }
+    {
+        let hint = first_open_word(&self.bytes, self.hint);
+        let at = first_open_byte(&self.bytes, 8 * hint);
+        if at == 256 {
+            return None;
+        }
+        Some(least_block(&self.bytes, at) as u16)
+    }
+
     /// Takes the least free block; `None` exactly where no block is free.
     pub fn take_least(&mut self) -> Option<u16>
         ensures least { IfSome result (λ block. IsLeastFree self.old block) }
@@ -85,5 +120,15 @@ impl SpaceMap {
     {
         give_block(&mut self.bytes, block as usize);
         self.hint = self.hint.min(block as usize / 64);
+    }
+
+    /// Takes a block, which is below 2,048.
+    pub fn take(&mut self, block: u16)
+        requires { block < 2048 }
+        ensures { self.new ≡ slice_set self.old block false }
+    {
+        use_block(&mut self.bytes, block as usize);
+        let word = block as usize / 64;
+        self.hint = self.hint.min(word);
     }
 }

@@ -19,7 +19,7 @@ use Rattle.tree_law.specs.declared.node.Node.{Node}
 use Rattle.tree_law.specs.declared.node.Node.TheVariants.{Directory, Regular}
 use Rattle.tree_law.specs.declared.reply.Why.TheVariants.{NoEnt}
 
-abbrev order : List ℕ → List ℕ → Ordering
+abbrev pub order : List ℕ → List ℕ → Ordering
 order = slice_cmp nat_cmp
 
 -- a name of a node stands for this inode

@@ -1,6 +1,10 @@
 pub mod Entries
 pub mod Keeping
 pub mod LastFlush
+pub mod Moves
+pub mod NameChanges
+pub mod OneName
+pub mod OneNameKept
 pub mod Paths
 pub mod Reading
 pub mod Renaming

@@ -1,13 +1,15 @@
 -- Walking a path in a tree in which the directories on the way still name each other.
-use Rattle.std.proofs.Common.{◌≡◌, ◌-◌, ℕ, List, [], ◌∷◌, length, take, get_or, arith, Option, Some, None, Result, Ok, Err, refl, sym, ap, ◌∙◌, subst}
+use Rattle.std.proofs.Common.{◌≡◌, ◌==◌, ◌-◌, ℕ, true, false, List, [], ◌∷◌, length, take, get_or, arith, Option, Some, None, Result, Ok, Err, refl, sym, ap, ◌∙◌, subst, if◌then◌else◌}
+use Rattle.std.specs.FinMap as map
 use Rattle.cal_base.specs.declared.directory_entry.EntryKind.TheVariants.{File as IsFile, Directory as IsDirectory}
 use Rattle.cal_base.specs.declared.identity.Ino.{Ino}
 use Rattle.tree_law.specs.Tree.{Tree, root, node_at}
 use Rattle.tree_law.specs.PartOf.{kind_of}
-use Rattle.tree_law.specs.Resolve.{prefix_of, last_of, looked_up, stepped, walked, resolved, judged, as_file, as_directory, file_named}
+use Rattle.tree_law.specs.Resolve.{prefix_of, last_of, looked_up, stepped, walked, resolved, judged, as_file, as_directory, as_empty_directory, file_named, parent_of}
 use Rattle.tree_law.specs.declared.node.Node.{Node}
 use Rattle.tree_law.specs.declared.node.Node.TheVariants.{Directory, Regular}
 use Rattle.tree_law.specs.declared.reply.Why.{Why}
+use Rattle.tree_law.specs.declared.reply.Why.TheVariants.{NotEmpty}
 use Rattle.tree_law.proofs.Walks.{refused_walk}
 use Rattle.tree_facts.proofs.Entries.{NamesIt, is_directory_by}
 
@@ -16,7 +18,7 @@ walked_at : (tree : Tree) (at : Result Ino Why) (name : List ℕ) (names : List 
 walked_at tree at name [] = refl
 walked_at tree at name (other ∷ names) = walked_at tree (stepped tree at name) other names
 
-walked_last : (tree : Tree) (at : Result Ino Why) (name : List ℕ) (names : List (List ℕ)) → walked tree at (name ∷ names) ≡ stepped tree (walked tree at (prefix_of (name ∷ names))) (last_of (name ∷ names))
+pub walked_last : (tree : Tree) (at : Result Ino Why) (name : List ℕ) (names : List (List ℕ)) → walked tree at (name ∷ names) ≡ stepped tree (walked tree at (prefix_of (name ∷ names))) (last_of (name ∷ names))
 walked_last tree at name names =
     let before_last : length names ≡ length (name ∷ names) - 1 = omega arith in
     walked_at tree at name names ∙ ap (λ (k : ℕ). stepped tree (walked tree at (take k (name ∷ names))) (get_or (name ∷ names) k [])) before_last
@@ -93,3 +95,44 @@ same_walk tree later at place (name ∷ names) keeps directory is =
 
 pub same_directory : (tree later : Tree) (path : List (List ℕ)) (place : Ino) → KeepsDirectories tree later → kind_of (node_at tree place) ≡ Some IsDirectory → resolved tree path ≡ Ok place → resolved later path ≡ Ok place
 same_directory tree later path place keeps directory is = same_walk tree later root place path keeps directory is
+
+-- what a path other than the root names has a name in the directory above
+pub record HasParent (tree : Tree) (path : List (List ℕ)) (ino : Ino) : Type 0 where
+  pub place : Ino
+  pub up : resolved tree (prefix_of path) ≡ Ok place
+  pub parent : parent_of tree path ≡ Ok place
+  pub directory : kind_of (node_at tree place) ≡ Some IsDirectory
+  pub named : NamesIt (node_at tree place) (last_of path) ino
+
+directory_there : (node : Option Node) (ino : Ino) → kind_of node ≡ Some IsDirectory → as_directory node ino ≡ Ok ino
+directory_there (Some (Directory names)) ino is = refl
+directory_there (Some (Regular file)) ino is = absurd (cc)
+directory_there None ino is = absurd (cc)
+
+parent_by : (tree : Tree) (path : List (List ℕ)) (ino : Ino) (above : Result Ino Why) → resolved tree (prefix_of path) ≡ above → stepped tree above (last_of path) ≡ Ok ino → HasParent tree path ino
+parent_by tree path ino (Ok place) up is =
+    let directory : kind_of (node_at tree place) ≡ Some IsDirectory = is_directory_by (node_at tree place) (last_of path) ino is in
+    record {
+      place = place;
+      up = up;
+      parent = ap (judged as_directory tree) up ∙ directory_there (node_at tree place) place directory;
+      directory = directory;
+      named = is;
+    }
+parent_by tree path ino (Err why) up is = absurd (cc)
+
+pub has_parent : (tree : Tree) (name : List ℕ) (names : List (List ℕ)) (ino : Ino) → resolved tree (name ∷ names) ≡ Ok ino → HasParent tree (name ∷ names) ino
+has_parent tree name names ino is = parent_by tree (name ∷ names) ino (resolved tree (prefix_of (name ∷ names))) refl (sym (walked_last tree (Ok root) name names) ∙ is)
+
+found_empty : (node : Option Node) (at ino : Ino) → as_empty_directory node at ≡ Ok ino → at ≡ ino
+found_empty (Some (Directory names)) at ino is =
+    elim (map.len names == 0) as (λ b. (if b then Ok at else Err NotEmpty) ≡ Ok ino → at ≡ ino) [
+      | true ↦ λ e. cc
+      | false ↦ λ e. absurd (cc)
+    ] is
+found_empty (Some (Regular file)) at ino is = absurd (cc)
+found_empty None at ino is = absurd (cc)
+
+pub judged_empty : (tree : Tree) (found : Result Ino Why) (ino : Ino) → judged as_empty_directory tree found ≡ Ok ino → found ≡ Ok ino
+judged_empty tree (Ok at) ino is = ap (λ (i : Ino). Ok i) (found_empty (node_at tree at) at ino is)
+judged_empty tree (Err why) ino is = absurd (cc)

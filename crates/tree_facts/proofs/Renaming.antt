@@ -183,7 +183,7 @@ moves tree (name ∷ names) (other ∷ others) ino named done =
 
 -- ---- and the tree is swept
 
-not_idle_named : (tree : Tree) (k : ℕ) → is_named tree k ≡ true → is_idle tree k ≡ false
+pub not_idle_named : (tree : Tree) (k : ℕ) → is_named tree k ≡ true → is_idle tree k ≡ false
 not_idle_named tree k is =
     elim (is_flushed_file (node_of tree k)) as (λ b. (b && not (is_open tree k) && not (is_named tree k)) ≡ false) [
       | true ↦ elim (is_open tree k) as (λ b. (true && not b && not (is_named tree k)) ≡ false) [

@@ -31,7 +31,7 @@ use Rattle.tree_law.specs.declared.node.Node.{Node}
 use Rattle.volume.specs.Format.{blank, format_writes, head_sector, root_inode}
 use Rattle.volume.specs.Head.{SpellsHead}
 use Rattle.volume.specs.Stands.{AreBlocksKept, Points, Stands, StandsForClient, StandsForDirectory, StandsForNode, TellsStanding}
-use Rattle.volume.specs.Volume.{SpellsDirectory, SpellsVolume, Volume}
+use Rattle.volume.specs.Volume.{Slots, SpellsDirectory, SpellsVolume, Volume}
 use Rattle.volume.proofs.First.{all_free, all_free_true, blank_inode, blank_map, blank_slot, free_inode, get_same, no_slot, root_spelled}
 use Rattle.volume.proofs.Formatted.{IsFresh, format_gives}
 
@@ -41,9 +41,12 @@ first_inodes = root_inode ∷ replicate 511 free_inode
 unfoldable first_slots : List Slot
 first_slots = replicate 16 no_slot
 
+unfoldable no_slots : List Slots
+no_slots = replicate 512 []
+
 -- the volume on which nothing has happened yet
 abbrev first_volume : ℕ → Volume
-first_volume clients = record { clients = clients; free = all_free; slots = first_slots; inodes = first_inodes; directories = λ number. [] }
+first_volume clients = record { clients = clients; free = all_free; slots = first_slots; inodes = first_inodes; directories = no_slots }
 
 inodes_count : length first_inodes ≡ 512
 unfolding first_inodes
@@ -121,9 +124,18 @@ slot_spelled clients x f client slot e =
     subst (λ (n : ℕ). SpellsSlot (sector x n) slot) place
     (subst (λ (t : Slot). SpellsSlot (sector x (19 + (1 + client))) t) (sym (slot_is client slot e)) (subst (λ (s : List ℕ). SpellsSlot s no_slot) (sym there) blank_slot))
 
-directory_spelled : (x : List (List ℕ)) (number : ℕ) (inode : Inode) → slice_get first_inodes number ≡ Some inode → inode.kind ≡ Dir → SpellsDirectory x inode []
-directory_spelled x zero inode e dir = empty_spelled x inode (ap (λ (i : Inode). i.size) (root_first inode e))
-directory_spelled x (suc m) inode e dir = empty_spelled x inode (ap (λ (i : Inode). i.size) (free_then m inode e))
+same_default : {A : Type 0} (n i : ℕ) (a : A) → get_or (replicate {A = A} n a) i a ≡ a
+same_default zero i a = refl
+same_default (suc n) zero a = refl
+same_default (suc n) (suc i) a = same_default n i a
+
+no_slots_at : (number : ℕ) → get_or no_slots number [] ≡ []
+unfolding no_slots
+no_slots_at number = same_default 512 number []
+
+directory_spelled : (x : List (List ℕ)) (number : ℕ) (inode : Inode) → slice_get first_inodes number ≡ Some inode → inode.kind ≡ Dir → SpellsDirectory x inode (get_or no_slots number [])
+directory_spelled x zero inode e dir = subst (λ (s : Slots). SpellsDirectory x inode s) (sym (no_slots_at 0)) (empty_spelled x inode (ap (λ (i : Inode). i.size) (root_first inode e)))
+directory_spelled x (suc m) inode e dir = subst (λ (s : Slots). SpellsDirectory x inode s) (sym (no_slots_at (suc m))) (empty_spelled x inode (ap (λ (i : Inode). i.size) (free_then m inode e)))
 
 volume_spelled : (clients : ℕ) (x : List (List ℕ)) → 1 ≤ clients → clients ≤ 16 → IsFresh clients x → SpellsVolume x (first_volume clients)
 volume_spelled clients x some few f = record {
@@ -134,17 +146,13 @@ volume_spelled clients x some few f = record {
   inode_count = inodes_count;
   inodes = λ number inode e. inode_spelled clients x f number inode e;
   directories = λ number inode e dir. directory_spelled x number inode e dir;
+  root = λ inode e. ap (λ (i : Inode). i.kind) (root_first inode e);
 }
 
 -- the empty tree
 root_node : node_at empty_tree (record { 0 = 0 }) ≡ Some empty_directory
 unfolding empty_tree first_nodes
 root_node = refl
-
-same_default : {A : Type 0} (n i : ℕ) (a : A) → get_or (replicate {A = A} n a) i a ≡ a
-same_default zero i a = refl
-same_default (suc n) zero a = refl
-same_default (suc n) (suc i) a = same_default n i a
 
 no_node : (m : ℕ) → node_at empty_tree (record { 0 = suc m }) ≡ None
 unfolding empty_tree first_nodes
@@ -165,7 +173,8 @@ empty_stands inode dir = record {
 
 node_stands : (clients : ℕ) (x : List (List ℕ)) (number : ℕ) (inode : Inode) → slice_get first_inodes number ≡ Some inode → StandsForNode x (first_volume clients) empty_tree number inode (node_at empty_tree (record { 0 = number }))
 node_stands clients x zero inode e =
-    subst (λ (o : Option Node). StandsForNode x (first_volume clients) empty_tree 0 inode o) (sym root_node) (empty_stands inode (ap (λ (i : Inode). i.kind) (root_first inode e)))
+    subst (λ (o : Option Node). StandsForNode x (first_volume clients) empty_tree 0 inode o) (sym root_node)
+    (subst (λ (s : Slots). StandsForDirectory inode s map.empty) (sym (no_slots_at 0)) (empty_stands inode (ap (λ (i : Inode). i.kind) (root_first inode e))))
 node_stands clients x (suc m) inode e =
     subst (λ (o : Option Node). StandsForNode x (first_volume clients) empty_tree (suc m) inode o) (sym (no_node m)) (inl (ap (λ (i : Inode). i.kind) (free_then m inode e)))
 

@@ -10,7 +10,7 @@ use Rattle.journal.specs.Layout.{sector}
 use Rattle.request_log.proofs.SlotLemmas.{same_slot}
 use Rattle.space_map.specs.SpaceMap.{SpellsMap, free_blocks}
 use Rattle.volume.proofs.HeadLemmas.{same_head}
-use Rattle.volume.specs.Volume.{AreSame, SpellsDirectory, SpellsVolume, Volume, pointed}
+use Rattle.volume.specs.Volume.{AreSame, SpellsDirectory, SpellsVolume, Volume, pointed, slots_of}
 
 -- lists of one length that are the same at each place
 same_each : {X : Type 0} (xs ys : List X) → length xs ≡ length ys → ((i : ℕ) (x y : X) → slice_get xs i ≡ Some x → slice_get ys i ≡ Some y → x ≡ y) → xs ≡ ys
@@ -58,6 +58,6 @@ same_volume x a b s t =
       free = same_map (sector x 19) a.free b.free s.map t.map;
       slots = same_each a.slots b.slots (s.slot_count ∙ sym t.slot_count) (λ i p q at_a at_b. same_slot (sector x (20 + i)) p q (s.slots i p at_a) (t.slots i q at_b));
       inodes = inodes;
-      directories = λ number inode at_a dir. same_directory x inode (a.directories number) (b.directories number) (s.directories number inode at_a dir)
+      directories = λ number inode at_a dir. same_directory x inode (slots_of a number) (slots_of b number) (s.directories number inode at_a dir)
           (t.directories number inode (subst (λ (is : List Inode). slice_get is number ≡ Some inode) inodes at_a) dir);
     }

@@ -19,7 +19,7 @@ use Rattle.tree_law.specs.declared.entry.Entry.{Entry}
 use Rattle.tree_law.specs.declared.node.Node.{Node}
 use Rattle.tree_law.specs.declared.node.Node.TheVariants.{Directory, Regular}
 use Rattle.volume.specs.Numbers.{flush_count, last_change}
-use Rattle.volume.specs.Volume.{SpellsVolume, Volume, file_byte}
+use Rattle.volume.specs.Volume.{SpellsVolume, Volume, file_byte, slots_of}
 
 -- an inode is a directory, whose slots that aren't empty are these names, each once
 pub record StandsForDirectory (inode : Inode) (slots : List (Option DirEntry)) (names : Names) : Type 0 where
@@ -38,7 +38,7 @@ abbrev pub StandsForNothing : Inode → Type 0
 StandsForNothing inode = (inode.kind ≡ Free) ⊎ ((inode.kind ≡ File) × (inode.named ≡ false))
 
 abbrev pub StandsForNode : List (List ℕ) → Volume → Tree → ℕ → Inode → Option Node → Type 0
-StandsForNode sectors v tree number inode (Some (Directory names)) = StandsForDirectory inode (v.directories number) names
+StandsForNode sectors v tree number inode (Some (Directory names)) = StandsForDirectory inode (slots_of v number) names
 StandsForNode sectors v tree number inode (Some (Regular file)) = StandsForFile sectors inode tree number file
 StandsForNode sectors v tree number inode None = StandsForNothing inode
 

@@ -1,6 +1,6 @@
 -- What the sectors of a volume spell. All of it is said of sectors that were replayed, so that no
 -- transaction is under way.
-use Rattle.std.specs.Prelude.{◌≡◌, ◌+◌, ◌*◌, ◌/◌, ◌%◌, ◌<◌, ◌==◌, ℕ, Bool, List, length, slice_get, slice_index, Option, Some, if◌then◌else◌}
+use Rattle.std.specs.Prelude.{◌≡◌, ◌+◌, ◌*◌, ◌/◌, ◌%◌, ◌<◌, ◌==◌, ℕ, Bool, List, [], length, slice_get, slice_index, slice_index_or, Option, Some, if◌then◌else◌}
 use Rattle.directory.specs.Block.{SpellsBlock}
 use Rattle.directory.specs.Directory.{IsDirectory, block_slots}
 use Rattle.directory.specs.declared.entry.DirEntry.{DirEntry}
@@ -13,14 +13,21 @@ use Rattle.request_log.specs.declared.slot.Slot.{Slot}
 use Rattle.space_map.specs.SpaceMap.{SpellsMap}
 use Rattle.volume.specs.Head.{SpellsHead}
 
+-- the slots of a directory, over all its blocks
+abbrev pub Slots : Type 0
+Slots = List (Option DirEntry)
+
 -- the count of clients; for each of 2,048 blocks whether it is free; the slots of 16 clients; 512 inodes;
--- and of each directory the slots of its blocks
+-- and for each inode the slots of its blocks, if it is a directory
 pub record Volume : Type 0 where
   pub clients : ℕ
   pub free : List Bool
   pub slots : List Slot
   pub inodes : List Inode
-  pub directories : ℕ → List (Option DirEntry)
+  pub directories : List Slots
+
+abbrev pub slots_of : Volume → ℕ → Slots
+slots_of v number = slice_index_or v.directories number []
 
 -- the sector at which a pointer points: pointer 1 is data block 0, in sector 548
 abbrev pub pointed : List (List ℕ) → ℕ → List ℕ
@@ -34,13 +41,13 @@ abbrev pub file_byte : List (List ℕ) → Inode → ℕ → ℕ
 file_byte sectors inode i = byte_behind sectors (slice_index inode.blocks (i / 4096)) i
 
 -- a directory's slots are those of its blocks, in order
-pub record SpellsDirectory (sectors : List (List ℕ)) (inode : Inode) (slots : List (Option DirEntry)) : Type 0 where
+pub record SpellsDirectory (sectors : List (List ℕ)) (inode : Inode) (slots : Slots) : Type 0 where
   pub directory : IsDirectory slots
   pub count : 4096 * length slots ≡ 128 * inode.size
   pub blocks : (block : ℕ) → 128 * block < length slots → SpellsBlock (pointed sectors (slice_index inode.blocks block)) (block_slots slots block)
 
 -- The sectors spell a volume: the head, the map, the slots, the inodes and the blocks of directories are in
--- their grammar.
+-- their grammar. Inode 0 is the root, a directory.
 pub record SpellsVolume (sectors : List (List ℕ)) (v : Volume) : Type 0 where
   pub head : SpellsHead (sector sectors 0) v.clients
   pub map : SpellsMap (sector sectors 19) v.free
@@ -48,7 +55,8 @@ pub record SpellsVolume (sectors : List (List ℕ)) (v : Volume) : Type 0 where
   pub slots : (client : ℕ) (slot : Slot) → slice_get v.slots client ≡ Some slot → SpellsSlot (sector sectors (20 + client)) slot
   pub inode_count : length v.inodes ≡ 512
   pub inodes : (number : ℕ) (inode : Inode) → slice_get v.inodes number ≡ Some inode → SpellsInode (sector sectors (36 + number)) inode
-  pub directories : (number : ℕ) (inode : Inode) → slice_get v.inodes number ≡ Some inode → inode.kind ≡ Dir → SpellsDirectory sectors inode (v.directories number)
+  pub directories : (number : ℕ) (inode : Inode) → slice_get v.inodes number ≡ Some inode → inode.kind ≡ Dir → SpellsDirectory sectors inode (slots_of v number)
+  pub root : (inode : Inode) → slice_get v.inodes 0 ≡ Some inode → inode.kind ≡ Dir
 
 -- two volumes are the same in all that sectors spell
 pub record AreSame (a b : Volume) : Type 0 where
@@ -56,4 +64,4 @@ pub record AreSame (a b : Volume) : Type 0 where
   pub free : a.free ≡ b.free
   pub slots : a.slots ≡ b.slots
   pub inodes : a.inodes ≡ b.inodes
-  pub directories : (number : ℕ) (inode : Inode) → slice_get a.inodes number ≡ Some inode → inode.kind ≡ Dir → a.directories number ≡ b.directories number
+  pub directories : (number : ℕ) (inode : Inode) → slice_get a.inodes number ≡ Some inode → inode.kind ≡ Dir → slots_of a number ≡ slots_of b number

@@ -1,0 +1,76 @@
+-- A test of what is shown at a number gives a number of the volume.
+use Rattle.std.proofs.Common.{◌≡◌, ◌==◌, ◌≤◌, ℕ, Bool, true, false, List, Option, Some, None, IfOk, Result, Ok, Err, is_some, nat_le, refl, sym, subst, inl, inr, arith, if◌then◌else◌}
+use Rattle.std.proofs.lemmas.Bool.{cases_lt}
+use Rattle.std.specs.FinMap as map
+use Rattle.tree_law.specs.Resolve.{as_directory, as_empty_directory, as_file, room_for}
+use Rattle.tree_law.specs.declared.node.Node.TheVariants.{Directory, Regular}
+use Rattle.tree_law.specs.declared.reply.Why.{Why}
+use Rattle.tree_law.specs.declared.reply.Why.TheVariants.{Exist, DirFull, NotEmpty}
+use Rattle.cal_base.specs.declared.identity.Ino.{Ino}
+use Rattle.tree_law.specs.Tree.{node_at}
+use Rattle.tree_law.specs.declared.node.Node.{Node}
+use Rattle.volume.specs.Volume.{Volume}
+use Rattle.volume_edit.specs.Edit.{IsVolume}
+use Rattle.volume_plan.specs.Shown.{shown}
+use Rattle.image.proofs.Shown.{none_shown}
+
+-- what is shown stands at one of 512 numbers
+within_of : (v : Volume) (ino : Ino) (node : Node) → IsVolume v → node_at (shown v) ino ≡ Some node → ino.0 ≤ 511
+within_of v ino node is e =
+    elim (cases_lt ino.0 512) [
+      | inl below ↦ omega arith
+      | inr past ↦
+          let none = none_shown v ino is past in
+          absurd (cc)
+    ]
+
+-- a test that gives the number of a node alone
+abbrev Gives : Option Node → Ino → Result Ino Why → Type 0
+Gives (Some node) ino r = IfOk r (λ (at : Ino). at ≡ ino)
+Gives None ino r = IfOk r (λ (at : Ino). ⊥)
+
+given : (b : Bool) (why : Why) (ino : Ino) → IfOk (if b then Ok ino else Err why) (λ (at : Ino). at ≡ ino)
+given true why ino = refl
+given false why ino = tt
+
+given_else : (b : Bool) (why : Why) (r : Result Ino Why) (ino : Ino) → IfOk r (λ (at : Ino). at ≡ ino) → IfOk (if b then Err why else r) (λ (at : Ino). at ≡ ino)
+given_else true why r ino is = tt
+given_else false why r ino is = is
+
+file_gives : (node : Option Node) (ino : Ino) → Gives node ino (as_file node ino)
+file_gives (Some (Directory names)) ino = tt
+file_gives (Some (Regular file)) ino = refl
+file_gives None ino = tt
+
+directory_gives : (node : Option Node) (ino : Ino) → Gives node ino (as_directory node ino)
+directory_gives (Some (Directory names)) ino = refl
+directory_gives (Some (Regular file)) ino = tt
+directory_gives None ino = tt
+
+empty_gives : (node : Option Node) (ino : Ino) → Gives node ino (as_empty_directory node ino)
+empty_gives (Some (Directory names)) ino = given (map.len names == 0) NotEmpty ino
+empty_gives (Some (Regular file)) ino = tt
+empty_gives None ino = tt
+
+room_gives : (name : List ℕ) (node : Option Node) (ino : Ino) → Gives node ino (room_for name node ino)
+room_gives name (Some (Directory names)) ino = given_else (is_some (map.get names name)) Exist _ ino (given_else (nat_le 1024 (map.len names)) DirFull (Ok ino) ino refl)
+room_gives name (Some (Regular file)) ino = tt
+room_gives name None ino = tt
+
+within_by : (v : Volume) (ino : Ino) (node : Option Node) (r : Result Ino Why) → IsVolume v → node ≡ node_at (shown v) ino → Gives node ino r → IfOk r (λ at. at.0 ≤ 511)
+within_by v ino (Some node) (Ok at) is e gives = subst (λ (i : Ino). i.0 ≤ 511) (sym gives) (within_of v ino node is (sym e))
+within_by v ino (Some node) (Err why) is e gives = tt
+within_by v ino None (Ok at) is e gives = absurd gives
+within_by v ino None (Err why) is e gives = tt
+
+pub file_within : (v : Volume) (ino : Ino) {node : Option Node} {r : Result Ino Why} → IsVolume v → node ≡ node_at (shown v) ino → r ≡ as_file node ino → IfOk r (λ at. at.0 ≤ 511)
+file_within v ino {node} {r} is e same = within_by v ino node r is e (subst (Gives node ino) (sym same) (file_gives node ino))
+
+pub directory_within : (v : Volume) (ino : Ino) {node : Option Node} {r : Result Ino Why} → IsVolume v → node ≡ node_at (shown v) ino → r ≡ as_directory node ino → IfOk r (λ at. at.0 ≤ 511)
+directory_within v ino {node} {r} is e same = within_by v ino node r is e (subst (Gives node ino) (sym same) (directory_gives node ino))
+
+pub empty_within : (v : Volume) (ino : Ino) {node : Option Node} {r : Result Ino Why} → IsVolume v → node ≡ node_at (shown v) ino → r ≡ as_empty_directory node ino → IfOk r (λ at. at.0 ≤ 511)
+empty_within v ino {node} {r} is e same = within_by v ino node r is e (subst (Gives node ino) (sym same) (empty_gives node ino))
+
+pub room_within : (v : Volume) (name : List ℕ) (ino : Ino) {node : Option Node} {r : Result Ino Why} → IsVolume v → node ≡ node_at (shown v) ino → r ≡ room_for name node ino → IfOk r (λ at. at.0 ≤ 511)
+room_within v name ino {node} {r} is e same = within_by v ino node r is e (subst (Gives node ino) (sym same) (room_gives name node ino))

@@ -1,0 +1,10 @@
+pub mod Applying
+pub mod FileRead
+pub mod Image
+pub mod Listed
+pub mod Mount
+pub mod Needed
+pub mod Nodes
+pub mod Planning
+pub mod Promises
+pub mod Writing

@@ -1,0 +1,135 @@
+-- What a mount reads of the sectors, and how it may end.
+use Rattle.std.specs.Prelude.{◌≡◌, ◌≢◌, ◌≤◌, ◌<◌, ◌+◌, ◌/◌, ℕ, zero, suc, Bool, List, [], length, slice_get, slice_index, Some, Result, Ok, Err}
+use Rattle.cal_base.specs.Faults.{Rose}
+use Rattle.directory.specs.Directory.{Continues}
+use Rattle.inode.specs.Inode.{IsInode, SpellsInode}
+use Rattle.inode.specs.declared.inode.Inode.{Inode}
+use Rattle.inode.specs.declared.inode.Kind.TheVariants.{Dir}
+use Rattle.journal.specs.Layout.{sector}
+use Rattle.request_log.specs.Slot.{IsSlot, SpellsSlot}
+use Rattle.request_log.specs.declared.slot.Slot.{Slot}
+use Rattle.shared_disk.specs.Disk.{Disk, MeetsOther}
+use Rattle.shared_disk.specs.declared.disk_refusal.DiskRefusal.{DiskRefusal}
+use Rattle.shared_disk.specs.declared.disk_refusal.DiskRefusal.TheVariants.{Fenced as Refenced, Failed as Refailed}
+use Rattle.space_map.specs.SpaceMap.{SpellsMap}
+use Rattle.volume.specs.Head.{SpellsHead}
+use Rattle.volume.specs.Volume.{Slots, pointed}
+use Rattle.volume_edit.specs.Edit.{HasSlots}
+use Rattle.image.specs.declared.mount_halt.MountHalt.{MountHalt}
+use Rattle.image.specs.declared.mount_halt.MountHalt.TheVariants.{Fenced, Failed, Damaged}
+
+-- a disk's refusal as a mount's halt
+abbrev pub refused : DiskRefusal → MountHalt
+refused (Refenced mine current) = Fenced mine current
+refused Refailed = Failed
+
+-- something holds of the sectors of a disk, where they are told
+abbrev pub Told : Disk → (List (List ℕ) → Type 0) → Type 0
+Told disk Holds = (sectors : List (List ℕ)) → disk.sectors ≡ Some sectors → Holds sectors
+
+-- the first so many blocks of a directory were put one behind the other
+pub record LoadsMore (Before : Slots → Type 0) (block : List ℕ) (slots : Slots) : Type 0 where
+  pub before : Slots
+  pub loaded : Before before
+  pub continues : Continues before block slots
+
+unfoldable pub Loads : List (List ℕ) → Inode → ℕ → Slots → Type 0
+Loads sectors inode zero slots = slots ≡ []
+Loads sectors inode (suc block) slots = LoadsMore (Loads sectors inode block) (pointed sectors (slice_index inode.blocks block)) slots
+
+-- an inode was read from its sector
+pub record IsRead (sectors : List (List ℕ)) (number : ℕ) (inode : Inode) : Type 0 where
+  pub number_small : number < 512
+  pub spelled : SpellsInode (sector sectors (36 + number)) inode
+
+-- a directory's block, at this sector, doesn't continue the blocks before it
+pub record BreaksDirectory (sectors : List (List ℕ)) (at : ℕ) : Type 0 where
+  pub number : ℕ
+  pub inode : Inode
+  pub read : IsRead sectors number inode
+  pub kind : inode.kind ≡ Dir
+  pub block : ℕ
+  pub within : block < inode.size / 4096
+  pub before : Slots
+  pub loaded : Loads sectors inode block before
+  pub there : at ≡ 547 + slice_index inode.blocks block
+  pub bad : (slots : Slots) → Continues before (pointed sectors (slice_index inode.blocks block)) slots → ⊥
+
+-- a sector that a mount reads is outside its grammar
+pub data IsDamage (sectors : List (List ℕ)) (at : ℕ) : Type 0 where
+  head : at ≡ 0 → ((clients : ℕ) → SpellsHead (sector sectors 0) clients → ⊥) → IsDamage sectors at
+  map : at ≡ 19 → ((free : List Bool) → SpellsMap (sector sectors 19) free → ⊥) → IsDamage sectors at
+  slot : (client : ℕ) → client < 16 → at ≡ 20 + client → ((slot : Slot) → SpellsSlot (sector sectors (20 + client)) slot → ⊥) → IsDamage sectors at
+  inode : (number : ℕ) → number < 512 → at ≡ 36 + number → ((inode : Inode) → SpellsInode (sector sectors (36 + number)) inode → ⊥) → IsDamage sectors at
+  root : (inode : Inode) → at ≡ 36 → SpellsInode (sector sectors 36) inode → inode.kind ≢ Dir → IsDamage sectors at
+  block : BreaksDirectory sectors at → IsDamage sectors at
+
+-- how a call ended that only reads under this view: it is refused exactly where the key is another, it fails
+-- only where the count of faults rose, and it finds damage only where there is some
+abbrev pub ReadEnds : (List (List ℕ) → ℕ → Type 0) → Disk → ℕ → ℕ → Result (Unit {0}) MountHalt → ℕ → Type 0
+ReadEnds Bad disk view faults (Ok done) faults' = disk.key ≡ view
+ReadEnds Bad disk view faults (Err (Fenced mine current)) faults' = MeetsOther disk view mine current
+ReadEnds Bad disk view faults (Err Failed) faults' = (disk.key ≡ view) × Rose faults faults'
+ReadEnds Bad disk view faults (Err (Damaged at)) faults' = (disk.key ≡ view) × Told disk (λ sectors. Bad sectors at)
+
+-- and the disk is as it was, but for its count of faults
+pub record ReadsOnly (Bad : List (List ℕ) → ℕ → Type 0) (disk : Disk) (view faults : ℕ) (result : Result (Unit {0}) MountHalt) (new : Disk) (faults' : ℕ) : Type 0 where
+  pub ends : ReadEnds Bad disk view faults result faults'
+  pub same : new ≡ disk
+  pub later : faults ≤ faults'
+
+-- no damage
+abbrev pub NoDamage : List (List ℕ) → ℕ → Type 0
+NoDamage sectors at = ⊥
+
+-- the block at a pointer doesn't continue a directory
+abbrev pub BreaksOff : Slots → ℕ → List (List ℕ) → ℕ → Type 0
+BreaksOff before pointer sectors at = (at ≡ 547 + pointer) × ((slots : Slots) → Continues before (pointed sectors pointer) slots → ⊥)
+
+-- a count of clients that a volume may have
+pub record IsCount (clients : ℕ) : Type 0 where
+  pub some : 1 ≤ clients
+  pub few : clients ≤ 16
+
+-- the slots of the first clients were read
+abbrev pub AreSlotsRead : List (List ℕ) → ℕ → List Slot → Type 0
+AreSlotsRead sectors count slots = (client : ℕ) (slot : Slot) → client < count → slice_get slots client ≡ Some slot → SpellsSlot (sector sectors (20 + client)) slot
+
+abbrev pub AreSlots : List Slot → Type 0
+AreSlots slots = (client : ℕ) (slot : Slot) → slice_get slots client ≡ Some slot → IsSlot slot
+
+-- what an inode and its directory may be
+pub record IsNode (number : ℕ) (inode : Inode) (slots : Slots) : Type 0 where
+  pub inode_is : IsInode inode
+  pub has : HasSlots inode.kind inode slots
+  pub root : number ≡ 0 → inode.kind ≡ Dir
+
+-- an inode and its directory were read
+pub record IsNodeRead (sectors : List (List ℕ)) (number : ℕ) (inode : Inode) (slots : Slots) : Type 0 where
+  pub spelled : SpellsInode (sector sectors (36 + number)) inode
+  pub blocks : inode.kind ≡ Dir → Loads sectors inode (inode.size / 4096) slots
+
+abbrev pub AreNodes : List Inode → List Slots → Type 0
+AreNodes inodes directories = (number : ℕ) (inode : Inode) (slots : Slots) → slice_get inodes number ≡ Some inode → slice_get directories number ≡ Some slots → IsNode number inode slots
+
+abbrev pub AreNodesRead : List (List ℕ) → ℕ → List Inode → List Slots → Type 0
+AreNodesRead sectors count inodes directories = (number : ℕ) (inode : Inode) (slots : Slots) → number < count → slice_get inodes number ≡ Some inode → slice_get directories number ≡ Some slots
+    → IsNodeRead sectors number inode slots
+
+-- a mount found no damage
+abbrev pub NeverDamaged : Result (Unit {0}) MountHalt → Type 0
+NeverDamaged result = (at : ℕ) → result ≢ Err (Damaged at)
+
+-- what the parts of a volume may be
+pub record AreParts (clients : ℕ) (free : List Bool) (slots : List Slot) (inodes : List Inode) (directories : List Slots) : Type 0 where
+  pub count : IsCount clients
+  pub map_is : length free ≡ 2048
+  pub slots_are : AreSlots slots
+  pub nodes_are : AreNodes inodes directories
+
+-- all parts of a volume were read
+pub record ArePartsRead (sectors : List (List ℕ)) (clients : ℕ) (free : List Bool) (slots : List Slot) (inodes : List Inode) (directories : List Slots) : Type 0 where
+  pub head_read : SpellsHead (sector sectors 0) clients
+  pub map_read : SpellsMap (sector sectors 19) free
+  pub slots_read : AreSlotsRead sectors 16 slots
+  pub nodes_read : AreNodesRead sectors 512 inodes directories

@@ -1,0 +1,42 @@
+//! The volume in a server's memory. It takes all memory that it will ever need at once: a look-up or an
+//! edit takes none. A mount reads it, an edit changes it, and a plan finds the edit of a change and the
+//! transaction that carries it out.
+#![tactic(auto)]
+
+mod after_edit;
+mod apply;
+mod change_plan;
+mod directories;
+mod entries;
+mod file_read;
+mod home;
+mod homes;
+mod image;
+mod inodes;
+mod making;
+mod marking;
+mod mount_halt;
+mod mounts;
+mod moving;
+mod needs;
+mod plans;
+mod read_lists;
+mod read_parts;
+mod removing;
+mod rename;
+mod resolve;
+mod room;
+mod search;
+mod shown_node;
+mod slots;
+#[cfg(test)]
+mod tests;
+mod touches;
+
+pub use change_plan::{ChangePlan, TouchList};
+pub use file_read::read_file;
+pub use image::Image;
+pub use mount_halt::MountHalt;
+pub use mounts::mount;
+pub use plans::Planned;
+pub use shown_node::ShownNode;

@@ -1,0 +1,150 @@
+ghost use Rattle.std.specs.Prelude.{◌≡◌, ◌≢◌, ◌≤◌, ◌<◌, ◌+◌, ◌*◌, ◌/◌, ℕ, [], length, slice_index, OnOk};
+ghost use Rattle.directory.specs.Directory.{Continues};
+ghost use Rattle.inode.specs.Inode.{IsInode};
+ghost use Rattle.inode.specs.declared.inode.Kind.TheVariants.{Dir};
+ghost use Rattle.journal.specs.Layout.{sector};
+ghost use Rattle.request_log.specs.Slot.{IsSlot, SpellsSlot};
+ghost use Rattle.shared_disk.specs.Disk.{SectorIs};
+ghost use Rattle.space_map.specs.SpaceMap.{SpellsMap};
+ghost use Rattle.volume.specs.Head.{SpellsHead};
+ghost use Rattle.volume.specs.Volume.{pointed};
+ghost use Rattle.image.specs.Mount.{BreaksOff, IsCount, IsDamage, NoDamage, ReadsOnly, Told};
+
+use crate::mount_halt::MountHalt;
+use cal_base::Sector;
+use directory::DirBlocks;
+use fence::Port;
+use request_log::{Slot, read_slot};
+use shared_disk::PortDisk;
+use space_map::SpaceMap;
+use volume::read_head;
+
+/// The sector of the head.
+const HEAD: u32 = 0;
+
+/// The sector of the map.
+const MAP: u32 = 19;
+
+/// The sector of the first client's slot.
+const FIRST_SLOT: u32 = 20;
+
+/// Pointer 1 is the data block in the next sector.
+pub(crate) const BEFORE_BLOCKS: u32 = 547;
+
+/// Reads a sector.
+pub(crate) fn read_sector<D: PortDisk>(
+    port: &Port,
+    disk: &mut D,
+    at: u32,
+    into: &mut Sector,
+) -> Result<(), MountHalt>
+    requires { at < 2596 }
+    ensures reads { ReadsOnly NoDamage (D.means disk.old) port.now.view (D.fault_count disk.old) result (D.means disk.new) (D.fault_count disk.new) }
+    ensures ok { OnOk result (SectorIs (D.means disk.old) at into.new) }
+{
+    port.read(disk, at, into)?;
+    Ok(())
+}
+
+/// Reads the count of clients.
+pub(crate) fn read_clients<D: PortDisk>(
+    port: &Port,
+    disk: &mut D,
+    clients: &mut u8,
+) -> Result<(), MountHalt>
+    ensures reads { ReadsOnly IsDamage (D.means disk.old) port.now.view (D.fault_count disk.old) result (D.means disk.new) (D.fault_count disk.new) }
+    ensures ok { OnOk result (Told (D.means disk.old) (λ sectors. SpellsHead (sector sectors 0) clients.new)) }
+    ensures kept { IsCount clients.old → IsCount clients.new }
+{
+    let mut sector = [0; 4096];
+    match read_sector(port, disk, HEAD, &mut sector) {
+        Ok(()) => {}
+        Err(halt) => return Err(halt),
+    }
+    match read_head(&sector) {
+        Ok(read) => {
+            *clients = read;
+            Ok(())
+        }
+        Err(_) => Err(MountHalt::Damaged { sector: HEAD }),
+    }
+}
+
+/// Reads the map.
+pub(crate) fn read_map<D: PortDisk>(
+    port: &Port,
+    disk: &mut D,
+    map: &mut SpaceMap,
+) -> Result<(), MountHalt>
+    ensures reads { ReadsOnly IsDamage (D.means disk.old) port.now.view (D.fault_count disk.old) result (D.means disk.new) (D.fault_count disk.new) }
+    ensures ok { OnOk result (Told (D.means disk.old) (λ sectors. SpellsMap (sector sectors 19) map.new)) }
+    ensures kept { length map.old ≡ 2048 → length map.new ≡ 2048 }
+{
+    let mut sector = [0; 4096];
+    match read_sector(port, disk, MAP, &mut sector) {
+        Ok(()) => {}
+        Err(halt) => return Err(halt),
+    }
+    match SpaceMap::read(&sector) {
+        Ok(read) => {
+            *map = read;
+            Ok(())
+        }
+        Err(_) => Err(MountHalt::Damaged { sector: MAP }),
+    }
+}
+
+/// Reads the slot of a client.
+pub(crate) fn read_client_slot<D: PortDisk>(
+    port: &Port,
+    disk: &mut D,
+    client: u32,
+    slot: &mut Slot,
+) -> Result<(), MountHalt>
+    requires { client < 16 }
+    ensures reads { ReadsOnly IsDamage (D.means disk.old) port.now.view (D.fault_count disk.old) result (D.means disk.new) (D.fault_count disk.new) }
+    ensures ok { OnOk result (Told (D.means disk.old) (λ sectors. SpellsSlot (sector sectors (20 + client)) slot.new)) }
+    ensures kept { IsSlot slot.old → IsSlot slot.new }
+{
+    let mut sector = [0; 4096];
+    match read_sector(port, disk, FIRST_SLOT + client, &mut sector) {
+        Ok(()) => {}
+        Err(halt) => return Err(halt),
+    }
+    match read_slot(&sector) {
+        Ok(read) => {
+            *slot = read;
+            Ok(())
+        }
+        Err(_) => Err(MountHalt::Damaged {
+            sector: FIRST_SLOT + client,
+        }),
+    }
+}
+
+/// Reads the next block of a directory.
+pub(crate) fn read_block<D: PortDisk>(
+    port: &Port,
+    disk: &mut D,
+    pointer: u16,
+    directory: &mut DirBlocks,
+) -> Result<(), MountHalt>
+    requires block { 1 ≤ pointer }
+    requires within { pointer ≤ 2048 }
+    requires room { length directory.old < 1024 }
+    ensures reads { ReadsOnly (BreaksOff directory.old pointer) (D.means disk.old) port.now.view (D.fault_count disk.old) result (D.means disk.new) (D.fault_count disk.new) }
+    ensures ok { OnOk result (Told (D.means disk.old) (λ sectors. Continues directory.old (pointed sectors pointer) directory.new)) }
+    ensures more { OnOk result (length directory.new ≡ length directory.old + 128) }
+{
+    let mut sector = [0; 4096];
+    match read_sector(port, disk, BEFORE_BLOCKS + pointer as u32, &mut sector) {
+        Ok(()) => {}
+        Err(halt) => return Err(halt),
+    }
+    match directory.load(&sector) {
+        Ok(()) => Ok(()),
+        Err(_) => Err(MountHalt::Damaged {
+            sector: BEFORE_BLOCKS + pointer as u32,
+        }),
+    }
+}

@@ -1,0 +1,5 @@
+use Rattle.space_map.proofs.FreeBlocks.{all_free}
+use Rattle.space_map.proofs.space_map.SpaceMap.new.Goals as goal
+
+pub returns : goal.returns
+returns c = all_free 256

@@ -13,19 +13,18 @@ use Rattle.volume_plan.specs.Plans.{Plan, plan}
 use Rattle.volume_plan.proofs.AllEdits.{plan_edit}
 use Rattle.volume_plan.proofs.EachChange.{change_leads}
 use Rattle.image.specs.Planning.{plan_of}
-use Rattle.image.specs.Promises.{Carries}
+use Rattle.image.specs.EntryPlans.{EntryStands}
 use Rattle.image.specs.declared.change_plan.ChangePlan.{ChangePlan}
 
 pub planned_edit : (v : Volume) (client : ClientId) (number : ℕ) (call : Call) (opened : List Ino) (p : ChangePlan) → IsVolume v → client.0 < 16 → 1 ≤ number → number < 2 ^ 64 → HasPaths call → plan_of p ≡ plan v client number call opened → IsEdit v p.edit
 planned_edit v client number call opened p is known some fits paths same =
     subst (λ (q : Plan). IsEdit v q.edit) (sym same) (plan_edit v client number call opened is (record { known = known; from_one = some; fits = fits }) paths)
 
-carries : (sectors : List (List ℕ)) (v : Volume) (history : List Entry) (client : ClientId) (number : ℕ) (call : Call) (q : Plan) (homes : List (ℕ × List ℕ)) → Mounted sectors v history
-    → Leads sectors v history q.edit (Called client number call q.reply q.new_ino) → AreHomes v q.edit homes → Carries sectors v history q.edit homes (Called client number call q.reply q.new_ino)
-carries sectors v history client number call q homes m leads are = record { legal = (leads.next, m.legal); stands = leads.stands homes are }
+entry_stands : (sectors : List (List ℕ)) (v : Volume) (history : List Entry) (client : ClientId) (number : ℕ) (call : Call) (q : Plan) (homes : List (ℕ × List ℕ)) → Leads sectors v history q.edit (Called client number call q.reply q.new_ino) → AreHomes v q.edit homes → EntryStands sectors v history q.edit homes (Called client number call q.reply q.new_ino)
+entry_stands sectors v history client number call q homes leads are = record { next = leads.next; stands = leads.stands homes are }
 
-pub planned_carries : (sectors : List (List ℕ)) (v : Volume) (history : List Entry) (client : ClientId) (number : ℕ) (call : Call) (opened : List Ino) (p : ChangePlan) (homes : List (ℕ × List ℕ)) → plan_of p ≡ plan v client number call opened → AreHomes v p.edit homes
-    → Mounted sectors v history → IsAsked history client number call opened → Carries sectors v history p.edit homes (Called client number call p.reply p.new_ino)
-planned_carries sectors v history client number call opened p homes same are m a =
-    carries sectors v history client number call (plan_of p) homes m
+pub planned_stands : (sectors : List (List ℕ)) (v : Volume) (history : List Entry) (client : ClientId) (number : ℕ) (call : Call) (opened : List Ino) (p : ChangePlan) (homes : List (ℕ × List ℕ)) → plan_of p ≡ plan v client number call opened → AreHomes v p.edit homes
+    → Mounted sectors v history → IsAsked history client number call opened → EntryStands sectors v history p.edit homes (Called client number call p.reply p.new_ino)
+planned_stands sectors v history client number call opened p homes same are m a =
+    entry_stands sectors v history client number call (plan_of p) homes
     (subst (λ (q : Plan). Leads sectors v history q.edit (Called client number call q.reply q.new_ino)) (sym same) (change_leads sectors v history client number opened m call a)) are

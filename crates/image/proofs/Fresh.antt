@@ -24,15 +24,15 @@ map_count : length fresh_map ≡ 2048
 unfolding fresh_map
 map_count = length-replicate 2048 true
 
-slot_count : length fresh_slots ≡ 16
+pub slot_count : length fresh_slots ≡ 16
 unfolding fresh_slots
 slot_count = length-replicate 16 first_slot
 
-inode_count : length fresh_inodes ≡ 512
+pub inode_count : length fresh_inodes ≡ 512
 unfolding fresh_inodes
 inode_count = let l = length-replicate {A = Inode} 511 free_inode in omega arith
 
-directory_count : length no_directories ≡ 512
+pub directory_count : length no_directories ≡ 512
 unfolding no_directories
 directory_count = length-replicate {A = Slots} 512 []
 

@@ -1,19 +1,22 @@
 mod AfterEdit
 mod Applying
+pub mod Carrying
 mod Damage
 mod EntryLists
+mod EntryPlans
 mod Filling
+mod FlushPlans
 mod Fresh
+mod FreshMade
 mod Listing
 mod Loading
 mod Lookups
 mod MarkedPointers
 mod Mounting
+pub mod Nodes
+pub mod Places
 mod Reading
+pub mod Shifts
 mod Shown
 mod WalkNeeds
 mod Writing
-pub mod Carrying
-pub mod Nodes
-pub mod Places
-pub mod Shifts

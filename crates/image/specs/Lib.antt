@@ -1,4 +1,5 @@
 pub mod Applying
+pub mod EntryPlans
 pub mod FileRead
 pub mod Image
 pub mod Listed
@@ -6,5 +7,4 @@ pub mod Mount
 pub mod Needed
 pub mod Nodes
 pub mod Planning
-pub mod Promises
 pub mod Writing

@@ -108,6 +108,7 @@ fn changes_of(edit: &Edit, ino: Ino) -> SlotChanges<'_>
     }
 }
 
+/// Whether a directory gets a block more.
 fn grows(growth: &Option<Growth>, ino: Ino) -> bool
     ensures { result ≡ grows_of growth.now ino.0 }
 {
@@ -117,6 +118,7 @@ fn grows(growth: &Option<Growth>, ino: Ino) -> bool
     }
 }
 
+/// The place in a directory at which an entry goes.
 fn leaving_place(leaving: &Option<Leaving>, ino: Ino) -> Option<usize>
     ensures { result ≡ leaving_at leaving.now ino.0 }
 {
@@ -132,6 +134,7 @@ fn leaving_place(leaving: &Option<Leaving>, ino: Ino) -> Option<usize>
     }
 }
 
+/// The entry that comes into a directory, with its place.
 fn entering_place(entering: &Option<Entering>, ino: Ino) -> Option<PlacedEntry<'_>>
     ensures { placed result ≡ entering_at entering.now ino.0 }
 {

@@ -187,12 +187,14 @@ fn has_other_blocks(inodes: &[Inode], edit: &Option<InodeEdit>) -> bool
     }
 }
 
+/// Whether two inodes have the same blocks at the same places.
 fn same_pointers(a: &[u16], b: &[u16]) -> bool
     ensures { result ≡ pointwise nat_eq a.now b.now }
 {
     a == b
 }
 
+/// The inode that an edit puts.
 fn inode_home(edit: &Option<InodeEdit>) -> Option<Home>
     ensures { result ≡ inode_home edit.now }
 {
@@ -202,6 +204,7 @@ fn inode_home(edit: &Option<InodeEdit>) -> Option<Home>
     }
 }
 
+/// The inode of the directory that grows.
 fn growth_home(growth: &Option<Growth>) -> Option<Home>
     ensures { result ≡ growth_home growth.now }
 {
@@ -211,6 +214,7 @@ fn growth_home(growth: &Option<Growth>) -> Option<Home>
     }
 }
 
+/// The block in which an entry goes.
 fn leaving_home(leaving: &Option<Leaving>) -> Option<Home>
     requires { IfSome leaving.now (λ (l : Leaving). l.place < 1024) }
     ensures { result ≡ leaving_home leaving.now }
@@ -221,6 +225,7 @@ fn leaving_home(leaving: &Option<Leaving>) -> Option<Home>
     }
 }
 
+/// The block in which an entry comes.
 fn entering_home(entering: &Option<Entering>) -> Option<Home>
     requires { IfSome entering.now (λ (n : Entering). n.place < 1024) }
     ensures { result ≡ entering_home entering.now }

@@ -21,7 +21,7 @@ use tree_law::{Path, Reply, Why};
 use volume_edit::{Edit, InodeEdit, Leaving};
 
 /// A free inode.
-fn free_inode() -> Inode
+pub(crate) fn free_inode() -> Inode
     ensures { result ≡ free_inode }
 {
     Inode {

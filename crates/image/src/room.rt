@@ -1,4 +1,5 @@
 ghost use Rattle.std.specs.Prelude.{◌≡◌, IfOk, replicate};
+ghost use Rattle.volume_edit.specs.Edit.{first_slot};
 ghost use Rattle.image.specs.Image.{fresh_inodes, fresh_slots, no_directories};
 
 use cal_base::{CLIENTS, INODES, Oom};
@@ -8,24 +9,31 @@ use request_log::Slot;
 use std::alloc::Global;
 use tree_law::Reply;
 
+/// The slot of a client that made no change.
+pub(crate) fn first_slot() -> Slot
+    ensures { result ≡ first_slot }
+{
+    Slot {
+        purged: false,
+        call: 0,
+        flush: 0,
+        reply: Reply::Done,
+    }
+}
+
 /// The slots of clients that made no change.
 pub(crate) fn room_for_slots(alloc: Global) -> Result<Vec<Slot>, Oom>
     ensures { IfOk result (λ slots. slots.items ≡ fresh_slots) }
 {
     let mut slots = Vec::with_capacity(alloc, CLIENTS as usize)?;
     for _client in 0..CLIENTS {
-        slots.push(Slot {
-            purged: false,
-            call: 0,
-            flush: 0,
-            reply: Reply::Done,
-        })?;
+        slots.push(first_slot())?;
     }
     Ok(slots)
 }
 
 /// An inode without blocks.
-fn blank_inode(kind: Kind, named: bool) -> Inode
+pub(crate) fn blank_inode(kind: Kind, named: bool) -> Inode
     ensures { result ≡ (record { kind = kind; named = named; size = 0; blocks = replicate 64 0 }) }
 {
     Inode {

@@ -18,7 +18,7 @@ pub(crate) fn put_slot(slots: &mut [Slot], edit: &Option<SlotEdit>)
 }
 
 /// A slot once more.
-fn slot_again(slot: &Slot) -> Slot
+pub(crate) fn slot_again(slot: &Slot) -> Slot
     requires { IsChangeReply slot.now.reply }
     ensures { result ≡ slot.now }
 {

@@ -1,13 +1,11 @@
-use crate::{Image, MountHalt, mount};
+use crate::{Image, MountHalt, mkfs, mount};
 use cal_base::{ClientId, Ino, View};
 use fence::Port;
-use request_log::Slot;
 use shared_disk::{MemDisk, PortDisk};
 use std::alloc::Global;
 use std::test::Fail;
-use tree_law::{Reply, Why, read_path};
+use tree_law::{Why, read_path};
 use volume::format;
-use volume_edit::{Edit, SlotEdit};
 
 /// A new disk, formatted for four clients under view 1, and its port.
 fn formatted(alloc: Global) -> Option<(MemDisk, Port)> {
@@ -40,30 +38,39 @@ fn a_blank_disk_is_damaged(rt: HostRuntime) -> Result<(), Fail> {
     Ok(())
 }
 
+/// How many writes a format for four clients makes on a new disk.
+fn writes_of_mkfs(alloc: Global, image: &mut Image) -> Option<u64> {
+    let mut disk = MemDisk::new(alloc).ok()?;
+    let mut port = Port::take(&mut disk, View(1)).ok()?;
+    disk.reserve(531).ok()?;
+    mkfs(image, &mut port, &mut disk, 4).ok()?;
+    Some(port.accepted())
+}
+
+#[test]
+fn a_made_image_is_fresh(rt: HostRuntime) -> Result<(), Fail> {
+    let mut image = Image::room(rt.alloc()).ok().ok_or("no memory")?;
+    assert_eq!(rt; writes_of_mkfs(rt.alloc(), &mut image), Some(531));
+    assert_eq!(rt; image.clients(), 4);
+    assert_eq!(rt; image.free(), 2_048);
+    Ok(())
+}
+
+/// The home of the purge of client 3, if there is one alone.
+fn home_of_purge(alloc: Global) -> Option<u32> {
+    let image = Image::room(alloc).ok()?;
+    let plan = image.plan_purge(alloc, ClientId(3)).ok()?;
+    let homes = plan.txn.homes();
+    if homes.len() == 1 {
+        Some(homes[0].0)
+    } else {
+        None
+    }
+}
+
 #[test]
 fn a_purge_has_one_home(rt: HostRuntime) -> Result<(), Fail> {
-    let mut image = Image::room(rt.alloc()).ok().ok_or("no memory")?;
-    let slot = SlotEdit {
-        client: ClientId(3),
-        slot: Slot {
-            purged: true,
-            call: 0,
-            flush: 0,
-            reply: Reply::Done,
-        },
-    };
-    let edit = Edit {
-        slot: Some(slot),
-        inode: None,
-        growth: None,
-        leaving: None,
-        entering: None,
-    };
-    let homes = image.homes_of(rt.alloc(), &edit).ok().ok_or("no memory")?;
-    assert_eq!(rt; homes.homes().len(), 1);
-    image.apply(&edit);
-    assert!(rt; image.slot(ClientId(3)).purged);
-    assert!(rt; !image.slot(ClientId(2)).purged);
+    assert_eq!(rt; home_of_purge(rt.alloc()), Some(23));
     Ok(())
 }
 

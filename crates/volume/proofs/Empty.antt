@@ -20,6 +20,7 @@ use Rattle.inode.specs.Inode.{SpellsInode}
 use Rattle.inode.specs.declared.inode.Inode.{Inode}
 use Rattle.inode.specs.declared.inode.Kind.TheVariants.{Dir}
 use Rattle.inode.proofs.InodeLemmas.{small_zeros}
+use Rattle.journal.specs.Commit.{replayed}
 use Rattle.journal.specs.Layout.{opens, outside, sector}
 use Rattle.journal.proofs.AfterCommit.{told_after}
 use Rattle.journal.proofs.Law.{replays_closed}
@@ -30,22 +31,22 @@ use Rattle.tree_law.specs.Tree.{empty_tree, first_nodes, is_purged, node_at, emp
 use Rattle.tree_law.specs.declared.node.Node.{Node}
 use Rattle.volume.specs.Format.{blank, format_writes, head_sector, root_inode}
 use Rattle.volume.specs.Head.{SpellsHead}
-use Rattle.volume.specs.Stands.{AreBlocksKept, Points, Stands, StandsForClient, StandsForDirectory, StandsForNode, TellsStanding}
+use Rattle.volume.specs.Stands.{AreBlocksKept, Points, Stands, StandsForClient, StandsForDirectory, StandsForHistory, StandsForNode, TellsStanding}
 use Rattle.volume.specs.Volume.{Slots, SpellsDirectory, SpellsVolume, Volume}
 use Rattle.volume.proofs.First.{all_free, all_free_true, blank_inode, blank_map, blank_slot, free_inode, get_same, no_slot, root_spelled}
 use Rattle.volume.proofs.Formatted.{IsFresh, format_gives}
 
-unfoldable first_inodes : List Inode
+unfoldable pub first_inodes : List Inode
 first_inodes = root_inode ∷ replicate 511 free_inode
 
-unfoldable first_slots : List Slot
+unfoldable pub first_slots : List Slot
 first_slots = replicate 16 no_slot
 
-unfoldable no_slots : List Slots
+unfoldable pub no_slots : List Slots
 no_slots = replicate 512 []
 
 -- the volume on which nothing has happened yet
-abbrev first_volume : ℕ → Volume
+abbrev pub first_volume : ℕ → Volume
 first_volume clients = record { clients = clients; free = all_free; slots = first_slots; inodes = first_inodes; directories = no_slots }
 
 inodes_count : length first_inodes ≡ 512
@@ -192,20 +193,27 @@ blank_closed : opens blank ≡ false
 unfolding zeros
 blank_closed = refl
 
-pub format_stands : (x : List (List ℕ)) (clients : ℕ) → IsWhole x → 1 ≤ clients → clients ≤ 16 → Stands (written x (format_writes clients)) []
-format_stands x clients whole some few =
+-- the first volume, of the sectors that a format leaves
+pub first_stands : (x : List (List ℕ)) (clients : ℕ) → IsWhole x → 1 ≤ clients → clients ≤ 16 → StandsForHistory (outside (written x (format_writes clients))) (first_volume clients) []
+first_stands x clients whole some few =
     let formats = format_gives x clients whole.count in
     record {
-      after = outside (written x (format_writes clients));
-      replays = replays_closed (written x (format_writes clients)) (ap opens formats.gate ∙ blank_closed);
-      volume = first_volume clients;
-      stands = record {
-        spells = volume_spelled clients (outside (written x (format_writes clients))) some few formats.fresh;
-        nodes = λ number inode e. node_stands clients (outside (written x (format_writes clients))) number inode e;
-        blocks = blocks_kept clients;
-        clients = λ client slot e. client_stands client slot e;
-      };
+      spells = volume_spelled clients (outside (written x (format_writes clients))) some few formats.fresh;
+      nodes = λ number inode e. node_stands clients (outside (written x (format_writes clients))) number inode e;
+      blocks = blocks_kept clients;
+      clients = λ client slot e. client_stands client slot e;
     }
+
+pub format_replays : (x : List (List ℕ)) (clients : ℕ) → IsWhole x → replayed (written x (format_writes clients)) ≡ Some (outside (written x (format_writes clients)))
+format_replays x clients whole = replays_closed (written x (format_writes clients)) (ap opens (format_gives x clients whole.count).gate ∙ blank_closed)
+
+pub format_stands : (x : List (List ℕ)) (clients : ℕ) → IsWhole x → 1 ≤ clients → clients ≤ 16 → Stands (written x (format_writes clients)) []
+format_stands x clients whole some few = record {
+  after = outside (written x (format_writes clients));
+  replays = format_replays x clients whole;
+  volume = first_volume clients;
+  stands = first_stands x clients whole some few;
+}
 
 -- a whole run of the format's writes
 pub run_stands : (x : List (List ℕ)) (clients : ℕ) (p : PortState) (d : Disk) (f : ℕ) (r : Result (Unit {0}) PortHalt) (p' : PortState) (d' : Disk) (f' : ℕ)

@@ -145,3 +145,7 @@ free_each n i b e = get_same (8 * n) i true b (sym (ap (λ (xs : List Bool). sli
 pub all_free_true : (i : ℕ) (b : Bool) → slice_get all_free i ≡ Some b → b ≡ true
 unfolding all_free free_blocks zeros
 all_free_true i b e = free_each 256 i b e
+
+pub map_of_free : all_free ≡ replicate 2048 true
+unfolding all_free free_blocks zeros
+map_of_free = all_true 256

@@ -22,7 +22,7 @@ use Rattle.tree_law.specs.declared.entry.Entry.TheVariants.{Flush as Flushed}
 use Rattle.tree_law.specs.declared.node.Node.{Node}
 use Rattle.tree_law.specs.declared.node.Node.TheVariants.{Directory, Regular}
 use Rattle.volume.specs.Numbers.{flush_count}
-use Rattle.volume.specs.Stands.{StandsForClient, StandsForFile, StandsForNode}
+use Rattle.volume.specs.Stands.{AreBlocksKept, StandsForClient, StandsForFile, StandsForNode}
 use Rattle.volume.specs.Volume.{Volume}
 use Rattle.volume_edit.proofs.InodePointers.{same_there, there_at}
 use Rattle.volume_edit.proofs.Marked.{get_set_other, get_set_same}
@@ -51,7 +51,6 @@ pub can_flush : (sectors : List (List ℕ)) (v : Volume) (history : List Entry) 
 can_flush sectors v history client flush file m due = record {
   count = m.count;
   volume = m.volume;
-  kept = m.stands.blocks;
   is = due.is;
   file = (old_stands sectors v history client flush file m due).kind;
   enough = due.enough;
@@ -69,20 +68,22 @@ slot_edits v client flush is below fits =
     let old : IsSlot (slot_at v.slots client.0) = is.slots client.0 (slot_at v.slots client.0) (slot_there v.slots client.0 (let l = is.slot_count in omega arith)) in
     record { client = below; slot = record { call = old.call; flush = fits; reply = old.reply } }
 
-pub flush_edit_is : (sectors : List (List ℕ)) (v : Volume) (history : List Entry) (client : ClientId) (flush : Flush) (file : FileState) → Mounted sectors v history → IsFlushDue v history client flush file → IsEdit v (flush_of v client flush)
-flush_edit_is sectors v history client flush file m due =
-    let can = can_flush sectors v history client flush file m due in
-    record {
-      some = inl refl;
-      slot = slot_edits v client flush m.volume due.known due.fits;
-      inode = flush_edits sectors v flush can (from_one v flush.ino.0 (old_of v flush) m.volume (there sectors v flush can) can.file);
-      growth = tt;
-      leaving = tt;
-      entering = tt;
-    }
+-- a flush that its volume can take is an edit, whatever the sectors are
+pub flush_edits_by : (sectors : List (List ℕ)) (v : Volume) (client : ClientId) (flush : Flush) → CanFlush sectors v flush → client.0 < 16 → flush.number < 2 ^ 64 → IsEdit v (flush_of v client flush)
+flush_edits_by sectors v client flush can known fits = record {
+  some = inl refl;
+  slot = slot_edits v client flush can.volume known fits;
+  inode = flush_edits sectors v flush can (from_one v flush.ino.0 (old_of v flush) can.volume (there sectors v flush can) can.file);
+  growth = tt;
+  leaving = tt;
+  entering = tt;
+}
 
-pub flush_takes : (sectors : List (List ℕ)) (v : Volume) (client : ClientId) (flush : Flush) → CanFlush sectors v flush → TakesFree v (flush_of v client flush)
-flush_takes sectors v client flush can = record { inode = flush_points sectors v flush can; growth = tt }
+pub flush_edit_is : (sectors : List (List ℕ)) (v : Volume) (history : List Entry) (client : ClientId) (flush : Flush) (file : FileState) → Mounted sectors v history → IsFlushDue v history client flush file → IsEdit v (flush_of v client flush)
+flush_edit_is sectors v history client flush file m due = flush_edits_by sectors v client flush (can_flush sectors v history client flush file m due) due.known due.fits
+
+pub flush_takes : (sectors : List (List ℕ)) (v : Volume) (client : ClientId) (flush : Flush) → CanFlush sectors v flush → AreBlocksKept v → TakesFree v (flush_of v client flush)
+flush_takes sectors v client flush can kept = record { inode = flush_points sectors v flush can kept; growth = tt }
 
 pub flush_next : (v : Volume) (history : List Entry) (client : ClientId) (flush : Flush) (file : FileState) → IsFlushDue v history client flush file → IsNext (tree_of history) (Flushed client flush.ino)
 flush_next v history client flush file due = ap (λ (node : Option Node). is_writer (writer_of node) client) due.there ∙ due.writer
@@ -115,7 +116,7 @@ new_stands sectors others v history client flush file m due same =
     record {
       kind = can.file;
       size = sym due.bytes.sized;
-      bytes = λ i. flushed_bytes sectors others v flush file.kept file.contents can m.stands.spells due.bytes old.bytes same i;
+      bytes = λ i. flushed_bytes sectors others v flush file.kept file.contents can m.stands.blocks m.stands.spells due.bytes old.bytes same i;
       named = old.named ∙ sym (flushed_named (tree_of history) flush.ino flush.ino.0);
     }
 

@@ -6,6 +6,7 @@ use Rattle.journal.specs.Layout.{sector}
 use Rattle.shared_disk.specs.Sectors.{written}
 use Rattle.token_kind.specs.Flush.{IsFlushed, block_count, byte_by, flushed_byte}
 use Rattle.token_kind.specs.declared.flush.Flush.{Flush}
+use Rattle.volume.specs.Stands.{AreBlocksKept}
 use Rattle.volume.specs.Volume.{SpellsVolume, Volume, byte_behind, file_byte}
 use Rattle.volume_edit.proofs.Data.{data_bytes}
 use Rattle.volume_edit.specs.Blocks.{GoToFree}
@@ -40,11 +41,11 @@ contents_byte kept contents flush i is = elim (cases_lt i flush.size) [
   | inr past ↦ get_or_past contents i 0 (let s = is.sized in omega (arith, s, past)) ∙ sym (is.past i past)
 ]
 
-pub flushed_bytes : (sectors others : List (List ℕ)) (v : Volume) (flush : Flush) (kept contents : List ℕ) → CanFlush sectors v flush → SpellsVolume sectors v
+pub flushed_bytes : (sectors others : List (List ℕ)) (v : Volume) (flush : Flush) (kept contents : List ℕ) → CanFlush sectors v flush → AreBlocksKept v → SpellsVolume sectors v
     → IsFlushed kept flush.size flush.cut flush.pieces contents → ((i : ℕ) → file_byte sectors (old_of v flush) i ≡ slice_index kept i)
     → ((j : ℕ) → 548 ≤ j → sector others j ≡ sector (written sectors (data_of v flush)) j)
     → (i : ℕ) → file_byte others (new_of v flush) i ≡ slice_index contents i
-flushed_bytes sectors others v flush kept contents can spells is bytes same i =
+flushed_bytes sectors others v flush kept contents can blocks spells is bytes same i =
     elim (pointer_cases sectors v flush (i / 4096) can) [
       | inl at ↦ of_piece at
       | inr other ↦ elim other [
@@ -67,7 +68,7 @@ flushed_bytes sectors others v flush kept contents can spells is bytes same i =
     as_before before =
         ap (λ (n : ℕ). byte_behind others n i) before.names
         ∙ byte_same (written sectors (data_of v flush)) others (slice_index (old_of v flush).blocks (i / 4096)) i same
-        ∙ data_bytes sectors v (data_of v flush) (data_goes_to_free v flush) spells can.kept flush.ino.0 (old_of v flush) (there sectors v flush can) i
+        ∙ data_bytes sectors v (data_of v flush) (data_goes_to_free v flush) spells blocks flush.ino.0 (old_of v flush) (there sectors v flush can) i
         ∙ bytes i
         ∙ sym (cond-true (nat_lt (i / 4096) (block_count flush.cut)) (slice_index kept i) 0 (lt-ltb (i / 4096) (block_count flush.cut) before.before))
         ∙ sym (ap (λ (o : Option (List ℕ)). byte_by o kept flush.cut i) before.unplaced.piece)

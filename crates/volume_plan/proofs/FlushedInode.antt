@@ -47,7 +47,6 @@ length-cut_pointers count pointers =
 pub record CanFlush (sectors : List (List ℕ)) (v : Volume) (flush : Flush) : Type 0 where
   pub count : length sectors ≡ 2596
   pub volume : IsVolume v
-  pub kept : AreBlocksKept v
   pub is : IsFlush flush
   pub file : (inode_at v.inodes flush.ino.0).kind ≡ File
   pub enough : length flush.pieces ≤ free_count v
@@ -136,15 +135,15 @@ known sectors v flush place block can names = elim (pointer_cases sectors v flus
   ]
 ]
 
-apart : (sectors : List (List ℕ)) (v : Volume) (flush : Flush) (place other block : ℕ) → CanFlush sectors v flush → slice_index (new_of v flush).blocks place ≡ block + 1 → slice_index (new_of v flush).blocks other ≡ block + 1 → place ≡ other
-apart sectors v flush place other block can a b = elim (pointer_cases sectors v flush place can) [
+apart : (sectors : List (List ℕ)) (v : Volume) (flush : Flush) (place other block : ℕ) → CanFlush sectors v flush → AreBlocksKept v → slice_index (new_of v flush).blocks place ≡ block + 1 → slice_index (new_of v flush).blocks other ≡ block + 1 → place ≡ other
+apart sectors v flush place other block can kept a b = elim (pointer_cases sectors v flush place can) [
   | inl first ↦ elim (pointer_cases sectors v flush other can) [
     | inl second ↦ one_index v.free 0 flush.pieces (blocks_for v flush) place other block (least_are_free v.free (length flush.pieces)) (at_block place a first) (at_block other b second)
     | inr rest ↦ absurd (mixed place other a b first rest)
   ]
   | inr first ↦ elim (pointer_cases sectors v flush other can) [
     | inl second ↦ absurd (mixed other place b a second first)
-    | inr second ↦ (can.kept.apart flush.ino.0 flush.ino.0 place other block (stood place a first) (stood other b second)).1
+    | inr second ↦ (kept.apart flush.ino.0 flush.ino.0 place other block (stood place a first) (stood other b second)).1
   ]
 ]
   where
@@ -156,16 +155,16 @@ apart sectors v flush place other block can a b = elim (pointer_cases sectors v 
     stood k names (inr hole) = (let n = hole.names in absurd (omega (arith, n, names)))
 
     mixed : (k l : ℕ) → slice_index (new_of v flush).blocks k ≡ block + 1 → slice_index (new_of v flush).blocks l ≡ block + 1 → IsAtPiece sectors v flush k → IsAsBefore v flush l ⊎ IsHole v flush l → ⊥
-    mixed k l c d at rest = free_unpointed v.free v.inodes can.volume.map (record { used = can.kept.used; apart = can.kept.apart }) flush.ino.0 l block (stood l d rest)
+    mixed k l c d at rest = free_unpointed v.free v.inodes can.volume.map (record { used = kept.used; apart = kept.apart }) flush.ino.0 l block (stood l d rest)
         (ap (slice_get v.free) (let n = at.names in let e : block ≡ at.placed.block = omega (arith, n, c) in e) ∙ at.placed.free_before)
 
 abbrev pub inode_edit_of : Volume → Flush → InodeEdit
 inode_edit_of v flush = record { ino = flush.ino; inode = new_of v flush }
 
-pub flush_points : (sectors : List (List ℕ)) (v : Volume) (flush : Flush) → CanFlush sectors v flush → IsPointing v (inode_edit_of v flush)
-flush_points sectors v flush can = record {
+pub flush_points : (sectors : List (List ℕ)) (v : Volume) (flush : Flush) → CanFlush sectors v flush → AreBlocksKept v → IsPointing v (inode_edit_of v flush)
+flush_points sectors v flush can kept = record {
   known = λ place block names. known sectors v flush place block can names;
-  apart = λ place other block a b. apart sectors v flush place other block can a b;
+  apart = λ place other block a b. apart sectors v flush place other block can kept a b;
 }
 
 pub flush_edits : (sectors : List (List ℕ)) (v : Volume) (flush : Flush) → CanFlush sectors v flush → 1 ≤ flush.ino.0 → IsInodeEdit (inode_edit_of v flush)

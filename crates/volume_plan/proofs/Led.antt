@@ -50,7 +50,7 @@ flush_stands sectors v history client flush file homes m due are =
     let made = written sectors (data_of v flush) in
     let before = data_stands sectors v history (data_of v flush) (data_goes_to_free v flush) m.stands in
     let edit = flush_edit_is sectors v history client flush file m due in
-    edit_stands made v (flush_of v client flush) homes (Flushed client flush.ino ∷ history) (length_written (data_of v flush) sectors ∙ m.count) before.spells m.volume before.blocks edit (flush_takes sectors v client flush can) are
+    edit_stands made v (flush_of v client flush) homes (Flushed client flush.ino ∷ history) (length_written (data_of v flush) sectors ∙ m.count) before.spells m.volume before.blocks edit (flush_takes sectors v client flush can before.blocks) are
     (flush_nodes sectors (written made homes) v history client flush file m due (record { node = before.nodes })
     (λ j high. data_stays made v (Some (slot_edit_of v client flush)) (Some (inode_edit_of v flush)) homes j edit.slot edit.inode are high))
     (flush_clients v history client flush (let a = due.known in let b = m.volume.slot_count in omega arith) due.next (record { slot = m.stands.clients }))

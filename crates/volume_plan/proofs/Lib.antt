@@ -49,6 +49,7 @@ pub mod ShownAnswers
 pub mod ShownNodes
 pub mod Similar
 pub mod SlotEntries
+pub mod SlotNumbers
 pub mod Standing
 pub mod Stopping
 pub mod Whys

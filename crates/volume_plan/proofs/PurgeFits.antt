@@ -93,7 +93,7 @@ clients_purged v history client within stand = record { slot = at }
           record { purged = old.purged ∙ sym (purged_as_before (tree_of history) client other apart); call = old.call; reply = old.reply; flush = old.flush })
     ]
 
-purge_edits : (v : Volume) (client : ClientId) → IsVolume v → client.0 < 16 → IsEdit v (purge_of v client)
+pub purge_edits : (v : Volume) (client : ClientId) → IsVolume v → client.0 < 16 → IsEdit v (purge_of v client)
 purge_edits v client is below =
     let old : IsSlot (slot_at v.slots client.0) = is.slots client.0 (slot_at v.slots client.0) (slot_there v.slots client.0 (let l = is.slot_count in omega arith)) in
     record {

@@ -1,5 +1,5 @@
 -- A client's needs of the whole tree are met by what it holds exactly where those that it sees itself are.
-use Rattle.std.proofs.Common.{◌≡◌, ◌++◌, ◌+◌, ℕ, Bool, true, false, ◌&&◌, is_some, List, [], ◌∷◌, length, Option, Some, None, option_map, Result, Ok, Err, refl, sym, ap, ◌∙◌, true≢false}
+use Rattle.std.proofs.Common.{◌≡◌, ◌++◌, ◌+◌, ℕ, Bool, true, ◌&&◌, is_some, List, [], ◌∷◌, length, Option, Some, None, option_map, Result, Ok, Err, refl, sym, ap, ◌∙◌, true≢false}
 use Rattle.std.specs.List.{list_all}
 use Rattle.cal_base.specs.declared.directory_entry.DirectoryEntry.{DirectoryEntry}
 use Rattle.cal_base.specs.declared.directory_entry.EntryKind.{EntryKind}
@@ -8,10 +8,10 @@ use Rattle.cal_base.specs.declared.identity.ClientId.{ClientId}
 use Rattle.cal_base.specs.declared.identity.Ino.{Ino}
 use Rattle.tree_law.specs.Descriptors.{within_limit, writable}
 use Rattle.tree_law.specs.Needs.{Need, end_needs, look_needs, names_read, needs, needs_of, open_needs, path_needs, stat_needs, walk_needs, want_of}
-use Rattle.tree_law.specs.Part.{Part, Place, end_needs_in, found_in, look_needs_in, looked_up_in, needs_in, needs_of_want_in, open_needs_in, path_needs_in, resolved_in, root_place, stat_needs_in, walk_needs_in, walked_in}
+use Rattle.tree_law.specs.Part.{Part, Place, end_needs_in, found_in, look_needs_in, looked_up_in, needs_in, needs_of_want_in, open_needs_in, path_needs_in, resolved_in, root_place, stat_needs_in, walk_needs_in}
 use Rattle.tree_law.specs.PartOf.{IsPartOf, kind_of}
 use Rattle.tree_law.specs.Resolve.{looked_up, resolved}
-use Rattle.tree_law.specs.Tree.{Tree, node_at, root, table_of}
+use Rattle.tree_law.specs.Tree.{Tree, node_at, root}
 use Rattle.tree_law.specs.declared.call.Call.{Call}
 use Rattle.tree_law.specs.declared.call.Call.TheVariants.{Create, Mkdir, Unlink, Rmdir, Rename, Open, Close, Read, Write, Truncate, Stat, Readdir, Fsync}
 use Rattle.tree_law.specs.declared.descriptor.Descriptor.{Descriptor}

@@ -1,5 +1,5 @@
 -- When what a client knows is that of a tree.
-use Rattle.std.specs.Prelude.{◌≡◌, true, Option, Some}
+use Rattle.std.specs.Prelude.{◌≡◌, true, Some}
 use Rattle.cal_base.specs.declared.identity.ClientId.{ClientId}
 use Rattle.cal_base.specs.declared.identity.Ino.{Ino}
 use Rattle.delayed_write.specs.Delayed.{Turns}

@@ -1,4 +1,4 @@
-ghost use Rattle.std.specs.Prelude.{◌≡◌, ◌≤◌, ◌<◌, ◌++◌, true, false, not, filter, find, option_map, IfOk, OnOk, OnErr};
+ghost use Rattle.std.specs.Prelude.{◌≡◌, ◌≤◌, ◌<◌, ◌-◌, ◌^◌, ◌++◌, true, false, not, filter, find, option_map, IfOk, OnOk, OnErr};
 ghost use Rattle.token_kind.specs.Flush.{IsFlush};
 ghost use Rattle.token_kind.specs.Hold.{hold_number};
 ghost use Rattle.client_cache.specs.Changes.{after_flushed, after_start, flush_left, flush_numbered, is_numbered, left_of, new_flush};
@@ -14,8 +14,8 @@ impl Cache {
     /// Starts a flush of a file that is unflushed and of which no flush is outstanding. The flush has
     /// the number after that of the last one, from 1; it leaves Read or none of Data and Attr. From now
     /// on it is outstanding, and it is that record each time it is sent; only what it leaves may be
-    /// raised, by a grant that is taken before it is done. Out of memory is also what is answered where
-    /// all 2^64 - 1 numbers are used up; all is then as it was.
+    /// raised, by a grant that is taken before it is done. There are numbers for 2^64 - 1 flushes. After
+    /// want of memory all is as it was.
     pub fn start_flush(
         &mut self,
         ino: Ino,
@@ -23,6 +23,7 @@ impl Cache {
         leave_attr: Hold,
     ) -> Result<Flush, Oom>
         requires ino { ino.0 < 512 }
+        requires number { self.old.last_flush < 2 ^ 64 - 1 }
         requires unflushed { (inode_at self.old ino).file.unflushed ≡ true }
         requires settled { is_settled self.old ino ≡ true }
         requires leave_data { hold_number leave_data ≤ 1 }
@@ -32,9 +33,6 @@ impl Cache {
         ensures state { OnOk result (self.new ≡ after_start self.old (new_flush self.old ino leave_data leave_attr)) }
         ensures err { OnErr result (self.new ≡ self.old) }
     {
-        if self.last_flush == u64::MAX {
-            return Err(Oom);
-        }
         let number = self.last_flush + 1;
         let file = &self.inodes[ino.0 as usize].file;
         let flush = file.to_flush(ino, leave_data, leave_attr, number)?;
@@ -42,6 +40,13 @@ impl Cache {
         self.flushes.push(kept)?;
         self.last_flush = number;
         Ok(flush)
+    }
+
+    /// The number of the last flush that was started, 0 before the first.
+    pub fn last_flush(&self) -> u64
+        ensures { result ≡ self.now.last_flush }
+    {
+        self.last_flush
     }
 
     /// The outstanding flushes, in the order of their numbers, as they are to be sent again.

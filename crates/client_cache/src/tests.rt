@@ -172,7 +172,8 @@ fn closes(cache: &mut Cache) -> Result<bool, Oom> {
 
 /// The number of a flush of file 3 that leaves Read of its bytes and its size, if one is due.
 fn flush(cache: &mut Cache) -> Result<Option<u64>, Oom> {
-    if cache.unflushed(Ino(3)) && !cache.flushing(Ino(3)) {
+    let is_due = cache.unflushed(Ino(3)) && !cache.flushing(Ino(3));
+    if is_due && cache.last_flush() < u64::MAX {
         let flush = cache.start_flush(Ino(3), Hold::Read, Hold::Read)?;
         Ok(Some(flush.number))
     } else {

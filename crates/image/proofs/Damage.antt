@@ -6,7 +6,6 @@ use Rattle.directory.specs.Directory.{Continues, block_slots}
 use Rattle.directory.proofs.Laws.{block_follows, one_way}
 use Rattle.inode.specs.Inode.{SpellsInode}
 use Rattle.inode.specs.declared.inode.Inode.{Inode}
-use Rattle.inode.specs.declared.inode.Kind.TheVariants.{Dir}
 use Rattle.inode.proofs.InodeLemmas.{same_inode}
 use Rattle.journal.specs.Layout.{outside, sector}
 use Rattle.request_log.specs.Slot.{SpellsSlot}
@@ -17,8 +16,10 @@ use Rattle.volume.specs.Volume.{Slots, SpellsDirectory, SpellsVolume, Volume, po
 use Rattle.volume_edit.specs.Edit.{first_slot, free_inode}
 use Rattle.image.specs.declared.mount_halt.MountHalt.{MountHalt}
 use Rattle.image.specs.declared.mount_halt.MountHalt.TheVariants.{Damaged}
-use Rattle.image.specs.Mount.{BreaksDirectory, IsDamage, Loads, ReadsOnly}
-use Rattle.image.specs.Mount.IsDamage.{block, head, inode, map, root, slot}
+use Rattle.image.specs.Damage.{IsDamage, LacksBlock, Loads}
+use Rattle.image.specs.Damage.FirstNode.{block, inode}
+use Rattle.image.specs.Damage.IsDamage.{head, map, node, slot}
+use Rattle.image.specs.Mount.{ReadsOnly}
 use Rattle.image.proofs.Mounting.{outside_far, outside_first}
 
 -- a directory's first blocks are loaded as it begins
@@ -36,41 +37,40 @@ loads_front s i slots d (suc count) before within l =
     one_way (take (128 * count) slots) before _ bytes (subst (λ (xs : Slots). Continues xs bytes before) front l.continues) follows ∙ ap (λ (n : ℕ). take n slots) more
 
 -- a block that breaks a directory off
-no_block : (s : List (List ℕ)) (at : ℕ) → BreaksDirectory s at → (v : Volume) → SpellsVolume (outside s) v → ⊥
-no_block s at b v spells =
+no_block : (s : List (List ℕ)) (number at : ℕ) → number < 512 → LacksBlock number s at → (v : Volume) → SpellsVolume (outside s) v → ⊥
+no_block s number at small b v spells =
     let count = spells.inode_count in
-    let small = b.read.number_small in
     let within = b.within in
-    let there : slice_get v.inodes b.number ≡ Some (get_or v.inodes b.number free_inode) = slice_get-get_or v.inodes b.number free_inode (omega arith) in
-    let spelled = subst (λ (bytes : List ℕ). SpellsInode bytes (get_or v.inodes b.number free_inode)) (outside_far s (36 + b.number) (omega arith)) (spells.inodes b.number _ there) in
-    let same : get_or v.inodes b.number free_inode ≡ b.inode = same_inode (sector s (36 + b.number)) _ b.inode spelled b.read.spelled in
-    let d : SpellsDirectory (outside s) b.inode (slots_of v b.number) = spells.directories b.number b.inode (there ∙ ap Some same) b.kind in
+    let there : slice_get v.inodes number ≡ Some (get_or v.inodes number free_inode) = slice_get-get_or v.inodes number free_inode (omega arith) in
+    let spelled = subst (λ (bytes : List ℕ). SpellsInode bytes (get_or v.inodes number free_inode)) (outside_far s (36 + number) (omega arith)) (spells.inodes number _ there) in
+    let same : get_or v.inodes number free_inode ≡ b.inode = same_inode (sector s (36 + number)) _ b.inode spelled b.spelled in
+    let d : SpellsDirectory (outside s) b.inode (slots_of v number) = spells.directories number b.inode (there ∙ ap Some same) b.kind in
     let long = d.count in
-    let inside : 128 * b.block < length (slots_of v b.number) = omega arith in
-    let front = loads_front s b.inode (slots_of v b.number) d b.block b.before (omega arith) b.loaded in
+    let inside : 128 * b.block < length (slots_of v number) = omega arith in
+    let front = loads_front s b.inode (slots_of v number) d b.block b.before (omega arith) b.loaded in
     let bytes = pointed s (slice_index b.inode.blocks b.block) in
-    let block_is : SpellsBlock bytes (block_slots (slots_of v b.number) b.block) = subst (λ (bs : List ℕ). SpellsBlock bs (block_slots (slots_of v b.number) b.block)) (outside_far s (547 + slice_index b.inode.blocks b.block) (omega arith)) (d.blocks b.block inside) in
-    let follows = block_follows (slots_of v b.number) b.block bytes d.directory inside block_is in
-    b.bad _ (subst (λ (xs : Slots). Continues xs bytes (take (128 * b.block + 128) (slots_of v b.number))) (sym front) follows)
+    let block_is : SpellsBlock bytes (block_slots (slots_of v number) b.block) = subst (λ (bs : List ℕ). SpellsBlock bs (block_slots (slots_of v number) b.block)) (outside_far s (547 + slice_index b.inode.blocks b.block) (omega arith)) (d.blocks b.block inside) in
+    let follows = block_follows (slots_of v number) b.block bytes d.directory inside block_is in
+    b.off.1 _ (subst (λ (xs : Slots). Continues xs bytes (take (128 * b.block + 128) (slots_of v number))) (sym front) follows)
 
 pub no_volume : (s : List (List ℕ)) (at : ℕ) → IsDamage s at → (v : Volume) → SpellsVolume (outside s) v → ⊥
-no_volume s at (head here bad) v spells = bad v.clients (subst (λ (bytes : List ℕ). SpellsHead bytes v.clients) (outside_first s) spells.head)
-no_volume s at (map here bad) v spells = bad v.free (subst (λ (bytes : List ℕ). SpellsMap bytes v.free) (outside_far s 19 (omega arith)) spells.map)
-no_volume s at (slot client small here bad) v spells =
+no_volume s at (head lacks) v spells = lacks.1 (record { clients = v.clients; spelled = subst (λ (bytes : List ℕ). SpellsHead bytes v.clients) (outside_first s) spells.head })
+no_volume s at (map before lacks) v spells = lacks.1 (record { free = v.free; spelled = subst (λ (bytes : List ℕ). SpellsMap bytes v.free) (outside_far s 19 (omega arith)) spells.map })
+no_volume s at (slot before maps f) v spells =
     let count = spells.slot_count in
-    let there : slice_get v.slots client ≡ Some (get_or v.slots client first_slot) = slice_get-get_or v.slots client first_slot (omega arith) in
-    bad _ (subst (λ (bytes : List ℕ). SpellsSlot bytes (get_or v.slots client first_slot)) (outside_far s (20 + client) (omega arith)) (spells.slots client _ there))
-no_volume s at (inode number small here bad) v spells =
+    let small = f.within in
+    let there : slice_get v.slots f.client ≡ Some (get_or v.slots f.client first_slot) = slice_get-get_or v.slots f.client first_slot (omega arith) in
+    f.lacks.1 (record { slot = get_or v.slots f.client first_slot; spelled = subst (λ (bytes : List ℕ). SpellsSlot bytes (get_or v.slots f.client first_slot)) (outside_far s (20 + f.client) (omega arith)) (spells.slots f.client _ there) })
+no_volume s at (node before maps slots (inode f)) v spells =
     let count = spells.inode_count in
-    let there : slice_get v.inodes number ≡ Some (get_or v.inodes number free_inode) = slice_get-get_or v.inodes number free_inode (omega arith) in
-    bad _ (subst (λ (bytes : List ℕ). SpellsInode bytes (get_or v.inodes number free_inode)) (outside_far s (36 + number) (omega arith)) (spells.inodes number _ there))
-no_volume s at (root i here spelled bad) v spells =
-    let count = spells.inode_count in
-    let there : slice_get v.inodes 0 ≡ Some (get_or v.inodes 0 free_inode) = slice_get-get_or v.inodes 0 free_inode (omega arith) in
-    let found = subst (λ (bytes : List ℕ). SpellsInode bytes (get_or v.inodes 0 free_inode)) (outside_far s 36 (omega arith)) (spells.inodes 0 _ there) in
-    let same : get_or v.inodes 0 free_inode ≡ i = same_inode (sector s 36) _ i found spelled in
-    bad (subst (λ (x : Inode). x.kind ≡ Dir) same (spells.root _ there))
-no_volume s at (block b) v spells = no_block s at b v spells
+    let small = f.within in
+    let there : slice_get v.inodes f.number ≡ Some (get_or v.inodes f.number free_inode) = slice_get-get_or v.inodes f.number free_inode (omega arith) in
+    f.lacks.1 (record {
+      inode = get_or v.inodes f.number free_inode;
+      spelled = subst (λ (bytes : List ℕ). SpellsInode bytes (get_or v.inodes f.number free_inode)) (outside_far s (36 + f.number) (omega arith)) (spells.inodes f.number _ there);
+      root = λ first. spells.root _ (subst (λ (n : ℕ). slice_get v.inodes n ≡ Some (get_or v.inodes f.number free_inode)) first there);
+    })
+no_volume s at (node before maps slots (block inodes f)) v spells = no_block s f.number at f.within f.lacks v spells
 
 -- where the sectors spell a volume, no damage is found
 pub no_damage : (d : Disk) (view f : ℕ) (r : Result (Unit {0}) MountHalt) (d' : Disk) (f' : ℕ) → ReadsOnly IsDamage d view f r d' f' → (s : List (List ℕ)) → d.sectors ≡ Some s

@@ -1,5 +1,5 @@
 -- The volume of a fresh format is one, and what is kept of it is right.
-use Rattle.std.proofs.Common.{◌≡◌, ◌≤◌, ◌<◌, ℕ, zero, suc, true, false, [], ◌∷◌, Some, length, replicate, slice_get, refl, sym, ap, arith, get_or, subst}
+use Rattle.std.proofs.Common.{◌≡◌, ◌≤◌, ◌<◌, ℕ, zero, suc, true, false, List, [], ◌∷◌, Some, length, replicate, slice_get, refl, sym, ap, arith, get_or, subst}
 use Rattle.std.proofs.lemmas.List.{length-replicate}
 use Rattle.std.proofs.lemmas.Option.{get_or_from_slice_get}
 use Rattle.directory.specs.Directory.{IsDirectory}
@@ -13,6 +13,7 @@ use Rattle.volume.proofs.Each.{root_is}
 use Rattle.volume.proofs.First.{blank_slot, free_is, get_same}
 use Rattle.volume_edit.specs.Edit.{HasSlots, IsVolume, first_slot, free_inode, inode_at}
 use Rattle.image.specs.Image.{IsImage, fresh_inodes, fresh_map, fresh_slots, fresh_volume, is_free_inode, is_orphan, no_directories}
+use Rattle.image.specs.Mount.{AreNodes}
 
 -- a list of one thing, read with that as the default
 at_each : {A : Type 0} (n place : ℕ) (a : A) → get_or (replicate {A = A} n a) place a ≡ a
@@ -104,3 +105,13 @@ fresh_image clients some few = record {
   free = record { within = omega arith; none = root_taken };
   orphan = record { within = omega arith; none = λ number h. no_orphan number };
 }
+
+pub fresh_nodes : AreNodes fresh_inodes no_directories
+fresh_nodes = λ number inode slots at there. record {
+  inode_is = inode_is number inode at;
+  has = subst (HasSlots inode.kind inode) (get_or_from_slice_get no_directories number slots [] there) (slots_are 1 number inode at);
+  root = λ first. ap (λ (i : Inode). i.kind) (get_root inode (subst (λ (n : ℕ). slice_get fresh_inodes n ≡ Some inode) first at));
+}
+
+pub nodes_cleared : (inodes : List Inode) (directories : List Slots) → inodes ≡ fresh_inodes → directories ≡ no_directories → AreNodes inodes directories
+nodes_cleared inodes directories a b = subst (λ (xs : List Inode). AreNodes xs directories) (sym a) (subst (AreNodes fresh_inodes) (sym b) fresh_nodes)

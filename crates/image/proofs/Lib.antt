@@ -18,5 +18,6 @@ pub mod Places
 mod Reading
 pub mod Shifts
 mod Shown
+mod Standing
 mod WalkNeeds
 mod Writing

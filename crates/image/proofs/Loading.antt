@@ -1,18 +1,15 @@
 -- The blocks of a directory, put one behind the other.
 use Rattle.std.proofs.lemmas.Bool.{cases_eq}
-use Rattle.std.proofs.Common.{◌≡◌, ◌≢◌, ◌↔◌, ◌<◌, ◌+◌, ◌*◌, ◌/◌, Bool, true, false, IsTrue, inl, inr, ℕ, suc, List, [], None, Some, length, slice_index, refl, sym, subst, arith}
+use Rattle.std.proofs.Common.{◌≡◌, ◌≢◌, ◌↔◌, ◌<◌, ◌+◌, ◌*◌, ◌/◌, Bool, true, false, IsTrue, inl, inr, ℕ, suc, List, [], length, slice_index, sym, subst, arith}
 use Rattle.directory.specs.Directory.{Continues, IsDirectory}
 use Rattle.inode.specs.Inode.{IsDirInode, IsInode, KindAllows, SpellsInode}
 use Rattle.inode.specs.declared.inode.Inode.{Inode}
 use Rattle.inode.specs.declared.inode.Kind.{Kind}
 use Rattle.inode.specs.declared.inode.Kind.TheVariants.{Dir}
 use Rattle.journal.specs.Layout.{sector}
-use Rattle.volume.specs.Format.{root_inode}
 use Rattle.volume.specs.Volume.{Slots, pointed}
-use Rattle.volume.proofs.Each.{root_is}
 use Rattle.volume_edit.specs.Edit.{HasSlots}
-use Rattle.image.specs.Mount.{BreaksOff, IsDamage, IsNode, Loads}
-use Rattle.image.specs.Mount.IsDamage.{block as broken}
+use Rattle.image.specs.Damage.{BreaksOff, LacksBlock, Loads}
 
 pub loads_none : (s : List (List ℕ)) (inode : Inode) (slots : Slots) → slots ≡ [] → Loads s inode 0 slots
 unfolding Loads
@@ -32,34 +29,19 @@ is_directory inode is kind = subst (λ (k : Kind). KindAllows k inode) kind is.a
 pub has_sized : (inode : Inode) (slots : Slots) → inode.kind ≡ Dir → IsDirectory slots → 4096 * length slots ≡ 128 * inode.size → HasSlots inode.kind inode slots
 has_sized inode slots kind d size = subst (λ (k : Kind). HasSlots k inode slots) (sym kind) (record { directory = d; count = size })
 
--- a block that breaks a directory off is damage
-pub breaks : (s : List (List ℕ)) (at number count pointer : ℕ) (inode : Inode) (before : Slots) → number < 512 → SpellsInode (sector s (36 + number)) inode → inode.kind ≡ Dir
-    → count < inode.size / 4096 → pointer ≡ slice_index inode.blocks count → Loads s inode count before → BreaksOff before pointer s at → IsDamage s at
-breaks s at number count pointer inode before small spelled kind within there loaded off =
-    let h = subst (λ (p : ℕ). BreaksOff before p s at) there off in
-    broken (record {
-      number = number;
-      inode = inode;
-      read = record { number_small = small; spelled = spelled };
-      kind = kind;
-      block = count;
-      within = within;
-      before = before;
-      loaded = loaded;
-      there = h.0;
-      bad = h.1;
-    })
-
-no_entries : IsDirectory []
-no_entries = record { whole = refl; few = omega arith; entries = λ p e at. (let both : None ≡ Some e = at in cc); distinct = λ i j a b at_i at_j same. (let both : None ≡ Some a = at_i in cc) }
-
--- a directory without blocks may stand anywhere
-pub empty_node : (number : ℕ) (inode : Inode) (slots : Slots) → inode ≡ root_inode → slots ≡ [] → IsNode number inode slots
-empty_node number inode slots is none = subst (λ (i : Inode). IsNode number i slots) (sym is) (subst (IsNode number root_inode) (sym none) (record {
-  inode_is = root_is;
-  has = record { directory = no_entries; count = refl };
-  root = λ first. refl;
-}))
+-- a block that breaks a directory off is outside its grammar
+pub breaks : (s : List (List ℕ)) (at number count pointer : ℕ) (inode : Inode) (before : Slots) → SpellsInode (sector s (36 + number)) inode → inode.kind ≡ Dir
+    → count < inode.size / 4096 → pointer ≡ slice_index inode.blocks count → Loads s inode count before → BreaksOff before pointer s at → LacksBlock number s at
+breaks s at number count pointer inode before spelled kind within there loaded off = record {
+  inode = inode;
+  spelled = spelled;
+  kind = kind;
+  block = count;
+  within = within;
+  before = before;
+  loaded = loaded;
+  off = subst (λ (p : ℕ). BreaksOff before p s at) there off;
+}
 
 -- an inode that may not stand is the root's, and no directory
 pub is_no_root : (b : Bool) (number : ℕ) (inode : Inode) → (IsTrue b ↔ (number ≡ 0 → inode.kind ≡ Dir)) → b ≡ false → (number ≡ 0) × (inode.kind ≢ Dir)

@@ -19,7 +19,8 @@ use Rattle.volume.specs.Head.{SpellsHead}
 use Rattle.volume.specs.Volume.{Slots, SpellsDirectory, SpellsVolume, Volume, pointed}
 use Rattle.volume_edit.specs.Edit.{HasSlots, IsSized, IsVolume, free_inode}
 use Rattle.image.specs.Image.{IsImage}
-use Rattle.image.specs.Mount.{AreParts, ArePartsRead, Loads}
+use Rattle.image.specs.Damage.{Loads}
+use Rattle.image.specs.Mount.{AreParts, ArePartsRead}
 
 -- the sectors of the volume are those of the disk, but for the journal
 pub outside_far : (s : List (List ℕ)) (at : ℕ) → 19 ≤ at → sector (outside s) at ≡ sector s at

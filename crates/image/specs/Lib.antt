@@ -1,4 +1,5 @@
 pub mod Applying
+pub mod Damage
 pub mod EntryPlans
 pub mod FileRead
 pub mod Image

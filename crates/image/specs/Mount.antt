@@ -1,7 +1,6 @@
 -- What a mount reads of the sectors, and how it may end.
-use Rattle.std.specs.Prelude.{◌≡◌, ◌≢◌, ◌≤◌, ◌<◌, ◌+◌, ◌/◌, ℕ, zero, suc, Bool, List, [], length, slice_get, slice_index, Some, Result, Ok, Err}
+use Rattle.std.specs.Prelude.{◌≡◌, ◌≢◌, ◌≤◌, ◌<◌, ◌+◌, ℕ, Bool, List, length, slice_get, Some, Result, Ok, Err}
 use Rattle.cal_base.specs.Faults.{Rose}
-use Rattle.directory.specs.Directory.{Continues}
 use Rattle.inode.specs.Inode.{IsInode, SpellsInode}
 use Rattle.inode.specs.declared.inode.Inode.{Inode}
 use Rattle.inode.specs.declared.inode.Kind.TheVariants.{Dir}
@@ -13,8 +12,9 @@ use Rattle.shared_disk.specs.declared.disk_refusal.DiskRefusal.{DiskRefusal}
 use Rattle.shared_disk.specs.declared.disk_refusal.DiskRefusal.TheVariants.{Fenced as Refenced, Failed as Refailed}
 use Rattle.space_map.specs.SpaceMap.{SpellsMap}
 use Rattle.volume.specs.Head.{SpellsHead}
-use Rattle.volume.specs.Volume.{Slots, pointed}
+use Rattle.volume.specs.Volume.{Slots}
 use Rattle.volume_edit.specs.Edit.{HasSlots}
+use Rattle.image.specs.Damage.{IsNodeRead}
 use Rattle.image.specs.declared.mount_halt.MountHalt.{MountHalt}
 use Rattle.image.specs.declared.mount_halt.MountHalt.TheVariants.{Fenced, Failed, Damaged}
 
@@ -26,43 +26,6 @@ refused Refailed = Failed
 -- something holds of the sectors of a disk, where they are told
 abbrev pub Told : Disk → (List (List ℕ) → Type 0) → Type 0
 Told disk Holds = (sectors : List (List ℕ)) → disk.sectors ≡ Some sectors → Holds sectors
-
--- the first so many blocks of a directory were put one behind the other
-pub record LoadsMore (Before : Slots → Type 0) (block : List ℕ) (slots : Slots) : Type 0 where
-  pub before : Slots
-  pub loaded : Before before
-  pub continues : Continues before block slots
-
-unfoldable pub Loads : List (List ℕ) → Inode → ℕ → Slots → Type 0
-Loads sectors inode zero slots = slots ≡ []
-Loads sectors inode (suc block) slots = LoadsMore (Loads sectors inode block) (pointed sectors (slice_index inode.blocks block)) slots
-
--- an inode was read from its sector
-pub record IsRead (sectors : List (List ℕ)) (number : ℕ) (inode : Inode) : Type 0 where
-  pub number_small : number < 512
-  pub spelled : SpellsInode (sector sectors (36 + number)) inode
-
--- a directory's block, at this sector, doesn't continue the blocks before it
-pub record BreaksDirectory (sectors : List (List ℕ)) (at : ℕ) : Type 0 where
-  pub number : ℕ
-  pub inode : Inode
-  pub read : IsRead sectors number inode
-  pub kind : inode.kind ≡ Dir
-  pub block : ℕ
-  pub within : block < inode.size / 4096
-  pub before : Slots
-  pub loaded : Loads sectors inode block before
-  pub there : at ≡ 547 + slice_index inode.blocks block
-  pub bad : (slots : Slots) → Continues before (pointed sectors (slice_index inode.blocks block)) slots → ⊥
-
--- a sector that a mount reads is outside its grammar
-pub data IsDamage (sectors : List (List ℕ)) (at : ℕ) : Type 0 where
-  head : at ≡ 0 → ((clients : ℕ) → SpellsHead (sector sectors 0) clients → ⊥) → IsDamage sectors at
-  map : at ≡ 19 → ((free : List Bool) → SpellsMap (sector sectors 19) free → ⊥) → IsDamage sectors at
-  slot : (client : ℕ) → client < 16 → at ≡ 20 + client → ((slot : Slot) → SpellsSlot (sector sectors (20 + client)) slot → ⊥) → IsDamage sectors at
-  inode : (number : ℕ) → number < 512 → at ≡ 36 + number → ((inode : Inode) → SpellsInode (sector sectors (36 + number)) inode → ⊥) → IsDamage sectors at
-  root : (inode : Inode) → at ≡ 36 → SpellsInode (sector sectors 36) inode → inode.kind ≢ Dir → IsDamage sectors at
-  block : BreaksDirectory sectors at → IsDamage sectors at
 
 -- how a call ended that only reads under this view: it is refused exactly where the key is another, it fails
 -- only where the count of faults rose, and it finds damage only where there is some
@@ -82,10 +45,6 @@ pub record ReadsOnly (Bad : List (List ℕ) → ℕ → Type 0) (disk : Disk) (v
 abbrev pub NoDamage : List (List ℕ) → ℕ → Type 0
 NoDamage sectors at = ⊥
 
--- the block at a pointer doesn't continue a directory
-abbrev pub BreaksOff : Slots → ℕ → List (List ℕ) → ℕ → Type 0
-BreaksOff before pointer sectors at = (at ≡ 547 + pointer) × ((slots : Slots) → Continues before (pointed sectors pointer) slots → ⊥)
-
 -- a count of clients that a volume may have
 pub record IsCount (clients : ℕ) : Type 0 where
   pub some : 1 ≤ clients
@@ -104,10 +63,17 @@ pub record IsNode (number : ℕ) (inode : Inode) (slots : Slots) : Type 0 where
   pub has : HasSlots inode.kind inode slots
   pub root : number ≡ 0 → inode.kind ≡ Dir
 
--- an inode and its directory were read
-pub record IsNodeRead (sectors : List (List ℕ)) (number : ℕ) (inode : Inode) (slots : Slots) : Type 0 where
-  pub spelled : SpellsInode (sector sectors (36 + number)) inode
-  pub blocks : inode.kind ≡ Dir → Loads sectors inode (inode.size / 4096) slots
+-- the first inodes were read
+abbrev pub AreInodesRead : List (List ℕ) → ℕ → List Inode → Type 0
+AreInodesRead sectors count inodes = (number : ℕ) (inode : Inode) → number < count → slice_get inodes number ≡ Some inode → SpellsInode (sector sectors (36 + number)) inode
+
+-- what an inode of a number may be: the root is a directory
+pub record MayStand (number : ℕ) (inode : Inode) : Type 0 where
+  pub inode_is : IsInode inode
+  pub root : number ≡ 0 → inode.kind ≡ Dir
+
+abbrev pub MayAllStand : ℕ → List Inode → Type 0
+MayAllStand count inodes = (number : ℕ) (inode : Inode) → number < count → slice_get inodes number ≡ Some inode → MayStand number inode
 
 abbrev pub AreNodes : List Inode → List Slots → Type 0
 AreNodes inodes directories = (number : ℕ) (inode : Inode) (slots : Slots) → slice_get inodes number ≡ Some inode → slice_get directories number ≡ Some slots → IsNode number inode slots

@@ -52,8 +52,7 @@ impl Image {
         self.clients = clients;
         self.map = SpaceMap::new();
         clear_slots(&mut self.slots);
-        clear_inodes(&mut self.inodes);
-        clear_directories(&mut self.directories);
+        clear_nodes(&mut self.inodes, &mut self.directories);
         self.least_free = 1;
         self.least_orphan = INODES;
     }
@@ -67,6 +66,18 @@ fn clear_slots(slots: &mut [Slot])
     for slot in slots.iter_mut() {
         *slot = first_slot();
     }
+}
+
+/// Makes the first inode the root without blocks, frees the others, and takes all slots from all
+/// directories.
+pub(crate) fn clear_nodes(inodes: &mut [Inode], directories: &mut [DirBlocks])
+    requires inode_count { length inodes.old ≡ 512 }
+    requires directory_count { length directories.old ≡ 512 }
+    ensures inodes { inodes.new ≡ fresh_inodes }
+    ensures directories { directories.new ≡ no_directories }
+{
+    clear_inodes(inodes);
+    clear_directories(directories);
 }
 
 /// Makes the first inode the root without blocks, and frees the others.

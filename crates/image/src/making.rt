@@ -8,6 +8,7 @@ ghost use Rattle.image.specs.Planning.{plan_of};
 
 use crate::change_plan::{ChangePlan, does_grow};
 use crate::image::Image;
+use crate::room::blank_inode;
 use crate::touches::touched_names;
 use cal_base::{Blob, ClientId, Ino, Oom};
 use directory::{DirBlocks, DirEntry, EntryName};
@@ -31,12 +32,7 @@ pub(crate) fn last_of(path: &Path) -> &[u8]
 fn new_inode(kind: Kind) -> Inode
     ensures { result ≡ new_inode kind }
 {
-    Inode {
-        kind,
-        named: true,
-        size: 0,
-        blocks: [0; 64],
-    }
+    blank_inode(kind, true)
 }
 
 /// The place of a directory's first empty slot, at most 1,024.

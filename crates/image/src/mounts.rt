@@ -2,7 +2,8 @@ ghost use Rattle.std.specs.Prelude.{◌≡◌, ◌≢◌, ℕ, List, length, Som
 ghost use Rattle.journal.specs.Layout.{outside};
 ghost use Rattle.volume.specs.Volume.{SpellsVolume, Volume};
 ghost use Rattle.volume_edit.specs.Edit.{IsVolume};
-ghost use Rattle.image.specs.Mount.{AreParts, ArePartsRead, IsDamage, NeverDamaged, ReadsOnly, Told};
+ghost use Rattle.image.specs.Damage.{IsDamage};
+ghost use Rattle.image.specs.Mount.{AreParts, ArePartsRead, NeverDamaged, ReadsOnly, Told};
 
 use crate::image::Image;
 use crate::mount_halt::MountHalt;
@@ -16,8 +17,10 @@ use shared_disk::PortDisk;
 use space_map::SpaceMap;
 
 /// Reads the volume that the sectors spell, and takes no memory. `Fenced` comes exactly where the key is
-/// another, `Failed` only where the count of faults rose, and `Damaged` only where that sector is outside
-/// its grammar, so never where the sectors spell a volume. After a halt the image is some volume.
+/// another, `Failed` only where the count of faults rose, and `Damaged` only where that sector is the first
+/// outside its grammar in the order of reading: the head, the map, the slots, the inodes, and then by inode
+/// the blocks of its directory. So it never comes where the sectors spell a volume. After a halt the image
+/// is some volume.
 pub fn mount<D: PortDisk>(image: &mut Image, port: &Port, disk: &mut D) -> Result<(), MountHalt>
     ensures reads { ReadsOnly IsDamage (D.means disk.old) port.now.view (D.fault_count disk.old) result (D.means disk.new) (D.fault_count disk.new) }
     ensures ok { OnOk result (Told (D.means disk.old) (λ sectors. SpellsVolume (outside sectors) image.new)) }

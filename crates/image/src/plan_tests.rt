@@ -1,4 +1,4 @@
-ghost use Rattle.std.specs.Prelude.{◌≡◌, IfSome, length};
+ghost use Rattle.std.specs.Prelude.{◌≡◌, ◌<◌, IfSome, length};
 ghost use Rattle.token_kind.specs.Flush.{IsFlush};
 
 use crate::{Image, Planned};
@@ -6,7 +6,7 @@ use cal_base::{ClientId, Ino};
 use std::alloc::Global;
 use std::test::Fail;
 use token_kind::{Flush, Hold, PieceList};
-use tree_law::{Call, Reply, read_path};
+use tree_law::{Call, Reply, Why, read_path};
 
 /// The plan of the first client's first change, `create /a`.
 fn create(image: &Image, alloc: Global) -> Option<Planned> {
@@ -160,5 +160,59 @@ fn an_open_file_is_kept_until_it_is_reaped(rt: HostRuntime) -> Result<(), Fail> 
     assert_eq!(rt; image.least_orphan(Ino(0)), Some(Ino(1)));
     assert_eq!(rt; reap_least(&mut image, rt.alloc()), Some((19, 1)));
     assert_eq!(rt; image.free(), 2_047);
+    Ok(())
+}
+
+/// Takes all data blocks.
+fn fill(image: &mut Image) {
+    for block in 0..2_048u16 {
+        image.map.take(block);
+    }
+}
+
+#[test]
+fn a_directory_cannot_grow_on_a_full_volume(rt: HostRuntime) -> Result<(), Fail> {
+    let mut image = Image::room(rt.alloc()).ok().ok_or("no memory")?;
+    fill(&mut image);
+    let planned = create(&image, rt.alloc()).ok_or("no memory")?;
+    let refused = Why::NoSpace { free: 0, needed: 1 };
+    assert_eq!(rt; planned.plan.reply, Reply::Refused(refused));
+    assert_eq!(rt; planned.plan.new_ino, None);
+    assert_eq!(rt; planned.txn.homes().len(), 1);
+    Ok(())
+}
+
+/// Makes a file of this path, by a client's first change.
+fn make(image: &mut Image, alloc: Global, client: u8, path: &[u8]) -> Option<usize>
+    requires { client < 16 }
+{
+    let path = read_path(alloc, path).ok()?;
+    let call = Call::Create(path);
+    let planned = image
+        .plan_change(alloc, ClientId(client), 1, &call, &[])
+        .ok()?;
+    image.apply(&planned.plan.edit);
+    Some(planned.txn.homes().len())
+}
+
+/// The plan of the third client to rename `/a.new` to `/a`.
+fn save(image: &Image, alloc: Global) -> Option<Planned> {
+    let from = read_path(alloc, b"/a.new").ok()?;
+    let to = read_path(alloc, b"/a").ok()?;
+    let call = Call::Rename(from, to);
+    image.plan_change(alloc, ClientId(2), 1, &call, &[]).ok()
+}
+
+#[test]
+fn a_rename_replaces_a_file(rt: HostRuntime) -> Result<(), Fail> {
+    let mut image = Image::room(rt.alloc()).ok().ok_or("no memory")?;
+    assert_eq!(rt; make(&mut image, rt.alloc(), 0, b"/a"), Some(5));
+    assert_eq!(rt; make(&mut image, rt.alloc(), 1, b"/a.new"), Some(3));
+    let planned = save(&image, rt.alloc()).ok_or("no memory")?;
+    assert_eq!(rt; planned.plan.reply, Reply::Done);
+    assert_eq!(rt; planned.txn.homes().len(), 3);
+    assert!(rt; begins(&planned, 0, 22, b"\x00\x00\x00\x00\x00\x00\x00\x00\x01"));
+    assert!(rt; begins(&planned, 1, 37, b"\x00\x00"));
+    assert!(rt; begins(&planned, 2, 548, b"\x00\x00\x00\x02\x01\x61\x00"));
     Ok(())
 }

@@ -1,22 +1,19 @@
-ghost use Rattle.std.specs.Prelude.{◌≡◌, ◌≤◌, ◌<◌, ◌+◌, ◌*◌, ◌/◌, ◌↔◌, ℕ, [], List, length, Some, OnOk, IsTrue};
-ghost use Rattle.directory.specs.Directory.{IsDirectory};
+ghost use Rattle.std.specs.Prelude.{◌≡◌, ◌+◌, ◌/◌, [], length, OnOk};
 ghost use Rattle.inode.specs.Inode.{IsInode, SpellsInode};
 ghost use Rattle.inode.specs.declared.inode.Kind.TheVariants.{Dir};
 ghost use Rattle.journal.specs.Layout.{sector};
-ghost use Rattle.volume.specs.Format.{root_inode};
 ghost use Rattle.volume_edit.specs.Edit.{HasSlots};
-ghost use Rattle.image.specs.Mount.{AreNodes, AreNodesRead, AreSlots, AreSlotsRead, IsDamage, IsNode, IsNodeRead, Loads, ReadsOnly, Told};
+ghost use Rattle.image.specs.Damage.{FirstBlock, FirstInode, FirstNode, FirstSlot, IsNodeRead, LacksBlock, Loads};
+ghost use Rattle.image.specs.Mount.{AreInodesRead, AreNodes, AreNodesRead, AreSlots, AreSlotsRead, IsNode, MayAllStand, MayStand, ReadsOnly, Told};
 
+use crate::made::clear_nodes;
 use crate::mount_halt::MountHalt;
-use crate::read_parts::{read_block, read_client_slot, read_sector};
+use crate::read_parts::{load_inode, read_block, read_client_slot};
 use directory::DirBlocks;
 use fence::Port;
-use inode::{Inode, Kind, read_inode};
+use inode::{Inode, Kind};
 use request_log::Slot;
 use shared_disk::PortDisk;
-
-/// The sector of the root's inode.
-const ROOT: u32 = 36;
 
 /// Reads the slots of 16 clients.
 pub(crate) fn read_slots<D: PortDisk>(
@@ -25,13 +22,34 @@ pub(crate) fn read_slots<D: PortDisk>(
     slots: &mut [Slot],
 ) -> Result<(), MountHalt>
     requires { length slots.old ≡ 16 }
-    ensures reads { ReadsOnly IsDamage (D.means disk.old) port.now.view (D.fault_count disk.old) result (D.means disk.new) (D.fault_count disk.new) }
+    ensures reads { ReadsOnly FirstSlot (D.means disk.old) port.now.view (D.fault_count disk.old) result (D.means disk.new) (D.fault_count disk.new) }
     ensures ok { OnOk result (Told (D.means disk.old) (λ sectors. AreSlotsRead sectors 16 slots.new)) }
     ensures kept { AreSlots slots.old → AreSlots slots.new }
     ensures count { length slots.new ≡ 16 }
 {
     for client in 0..16u32 {
         match read_client_slot(port, disk, client, &mut slots[client as usize]) {
+            Ok(()) => {}
+            Err(halt) => return Err(halt),
+        }
+    }
+    Ok(())
+}
+
+/// Reads the 512 inodes.
+pub(crate) fn read_inodes<D: PortDisk>(
+    port: &Port,
+    disk: &mut D,
+    inodes: &mut [Inode],
+) -> Result<(), MountHalt>
+    requires { length inodes.old ≡ 512 }
+    ensures reads { ReadsOnly FirstInode (D.means disk.old) port.now.view (D.fault_count disk.old) result (D.means disk.new) (D.fault_count disk.new) }
+    ensures ok { OnOk result (Told (D.means disk.old) (λ sectors. AreInodesRead sectors 512 inodes.new)) }
+    ensures stand { OnOk result (MayAllStand 512 inodes.new) }
+    ensures count { length inodes.new ≡ 512 }
+{
+    for number in 0..512u32 {
+        match load_inode(port, disk, number, &mut inodes[number as usize]) {
             Ok(()) => {}
             Err(halt) => return Err(halt),
         }
@@ -47,13 +65,12 @@ pub(crate) fn read_blocks<D: PortDisk>(
     inode: &Inode,
     directory: &mut DirBlocks,
 ) -> Result<(), MountHalt>
-    requires number { number < 512 }
     requires inode { IsInode inode.now }
     requires kind { inode.now.kind ≡ Dir }
     requires spelled { Told (D.means disk.old) (λ sectors. SpellsInode (sector sectors (36 + number)) inode.now) }
     requires own { (D.means disk.old).key ≡ port.now.view }
     requires none { directory.old ≡ [] }
-    ensures reads { ReadsOnly IsDamage (D.means disk.old) port.now.view (D.fault_count disk.old) result (D.means disk.new) (D.fault_count disk.new) }
+    ensures reads { ReadsOnly (LacksBlock number) (D.means disk.old) port.now.view (D.fault_count disk.old) result (D.means disk.new) (D.fault_count disk.new) }
     ensures ok { OnOk result (Told (D.means disk.old) (λ sectors. Loads sectors inode.now (inode.now.size / 4096) directory.new)) }
     ensures has { OnOk result (HasSlots inode.now.kind inode.now directory.new) }
 {
@@ -68,95 +85,57 @@ pub(crate) fn read_blocks<D: PortDisk>(
     Ok(())
 }
 
-/// A directory without blocks.
-fn empty_directory() -> Inode
-    ensures { result ≡ root_inode }
-{
-    Inode {
-        kind: Kind::Dir,
-        named: true,
-        size: 0,
-        blocks: [0; 64],
-    }
-}
-
-/// Puts an inode that was read into its place, and reads its blocks if it is a directory.
-pub(crate) fn load_node<D: PortDisk>(
+/// Reads the blocks of an inode's directory, if it is one.
+pub(crate) fn read_directory<D: PortDisk>(
     port: &Port,
     disk: &mut D,
     number: u32,
-    read: &Inode,
-    inode: &mut Inode,
+    inode: &Inode,
     directory: &mut DirBlocks,
 ) -> Result<(), MountHalt>
-    requires number { number < 512 }
-    requires read { IsInode read.now }
-    requires root { number ≡ 0 → read.now.kind ≡ Dir }
-    requires spelled { Told (D.means disk.old) (λ sectors. SpellsInode (sector sectors (36 + number)) read.now) }
+    requires stands { MayStand number inode.now }
+    requires spelled { Told (D.means disk.old) (λ sectors. SpellsInode (sector sectors (36 + number)) inode.now) }
     requires own { (D.means disk.old).key ≡ port.now.view }
-    ensures reads { ReadsOnly IsDamage (D.means disk.old) port.now.view (D.fault_count disk.old) result (D.means disk.new) (D.fault_count disk.new) }
-    ensures ok { OnOk result (Told (D.means disk.old) (λ sectors. IsNodeRead sectors number inode.new directory.new)) }
-    ensures node { IsNode number inode.new directory.new }
+    ensures reads { ReadsOnly (LacksBlock number) (D.means disk.old) port.now.view (D.fault_count disk.old) result (D.means disk.new) (D.fault_count disk.new) }
+    ensures ok { OnOk result (Told (D.means disk.old) (λ sectors. IsNodeRead sectors number inode.now directory.new)) }
+    ensures node { OnOk result (IsNode number inode.now directory.new) }
 {
     directory.clear_all();
-    *inode = empty_directory();
-    match read.kind {
-        Kind::Dir => match read_blocks(port, disk, number, read, directory) {
-            Ok(()) => {}
-            Err(halt) => {
-                directory.clear_all();
-                return Err(halt);
-            }
-        },
-        Kind::Free | Kind::File => {}
+    match inode.kind {
+        Kind::Dir => read_blocks(port, disk, number, inode, directory),
+        Kind::Free | Kind::File => Ok(()),
     }
-    *inode = *read;
+}
+
+/// Reads the blocks of all directories.
+pub(crate) fn read_directories<D: PortDisk>(
+    port: &Port,
+    disk: &mut D,
+    inodes: &[Inode],
+    directories: &mut [DirBlocks],
+) -> Result<(), MountHalt>
+    requires inode_count { length inodes.now ≡ 512 }
+    requires directory_count { length directories.old ≡ 512 }
+    requires stand { MayAllStand 512 inodes.now }
+    requires read { Told (D.means disk.old) (λ sectors. AreInodesRead sectors 512 inodes.now) }
+    requires own { (D.means disk.old).key ≡ port.now.view }
+    ensures reads { ReadsOnly FirstBlock (D.means disk.old) port.now.view (D.fault_count disk.old) result (D.means disk.new) (D.fault_count disk.new) }
+    ensures ok { OnOk result (Told (D.means disk.old) (λ sectors. AreNodesRead sectors 512 inodes.now directories.new)) }
+    ensures nodes { OnOk result (AreNodes inodes.now directories.new) }
+    ensures count { length directories.new ≡ 512 }
+{
+    for number in 0..512u32 {
+        let at = number as usize;
+        match read_directory(port, disk, number, &inodes[at], &mut directories[at]) {
+            Ok(()) => {}
+            Err(halt) => return Err(halt),
+        }
+    }
     Ok(())
 }
 
-/// Whether an inode of this number may be so: the root is a directory.
-fn may_stand(number: u32, inode: &Inode) -> bool
-    ensures { IsTrue result ↔ (number ≡ 0 → inode.now.kind ≡ Dir) }
-{
-    match inode.kind {
-        Kind::Dir => true,
-        Kind::Free | Kind::File => number != 0,
-    }
-}
-
-/// Reads an inode, and its blocks if it is a directory.
-pub(crate) fn read_node<D: PortDisk>(
-    port: &Port,
-    disk: &mut D,
-    number: u32,
-    inode: &mut Inode,
-    directory: &mut DirBlocks,
-) -> Result<(), MountHalt>
-    requires { number < 512 }
-    ensures reads { ReadsOnly IsDamage (D.means disk.old) port.now.view (D.fault_count disk.old) result (D.means disk.new) (D.fault_count disk.new) }
-    ensures ok { OnOk result (Told (D.means disk.old) (λ sectors. IsNodeRead sectors number inode.new directory.new)) }
-    ensures kept { IsNode number inode.old directory.old → IsNode number inode.new directory.new }
-{
-    let mut sector = [0; 4096];
-    match read_sector(port, disk, ROOT + number, &mut sector) {
-        Ok(()) => {}
-        Err(halt) => return Err(halt),
-    }
-    let Ok(read) = read_inode(&sector) else {
-        return Err(MountHalt::Damaged {
-            sector: ROOT + number,
-        });
-    };
-    if !may_stand(number, &read) {
-        return Err(MountHalt::Damaged { sector: ROOT });
-    }
-    match load_node(port, disk, number, &read, inode, directory) {
-        Ok(()) => Ok(()),
-        Err(halt) => Err(halt),
-    }
-}
-
-/// Reads the 512 inodes, and the blocks of the directories.
+/// Reads the 512 inodes, and then the blocks of the directories. After a halt there is a root without
+/// blocks, and nothing else.
 pub(crate) fn read_nodes<D: PortDisk>(
     port: &Port,
     disk: &mut D,
@@ -165,18 +144,24 @@ pub(crate) fn read_nodes<D: PortDisk>(
 ) -> Result<(), MountHalt>
     requires inodes { length inodes.old ≡ 512 }
     requires directories { length directories.old ≡ 512 }
-    ensures reads { ReadsOnly IsDamage (D.means disk.old) port.now.view (D.fault_count disk.old) result (D.means disk.new) (D.fault_count disk.new) }
+    ensures reads { ReadsOnly FirstNode (D.means disk.old) port.now.view (D.fault_count disk.old) result (D.means disk.new) (D.fault_count disk.new) }
     ensures ok { OnOk result (Told (D.means disk.old) (λ sectors. AreNodesRead sectors 512 inodes.new directories.new)) }
-    ensures kept { AreNodes inodes.old directories.old → AreNodes inodes.new directories.new }
+    ensures nodes { AreNodes inodes.new directories.new }
     ensures inode_count { length inodes.new ≡ 512 }
     ensures directory_count { length directories.new ≡ 512 }
 {
-    for number in 0..512u32 {
-        let at = number as usize;
-        match read_node(port, disk, number, &mut inodes[at], &mut directories[at]) {
-            Ok(()) => {}
-            Err(halt) => return Err(halt),
+    match read_inodes(port, disk, inodes) {
+        Ok(()) => {}
+        Err(halt) => {
+            clear_nodes(inodes, directories);
+            return Err(halt);
         }
     }
-    Ok(())
+    match read_directories(port, disk, inodes, directories) {
+        Ok(()) => Ok(()),
+        Err(halt) => {
+            clear_nodes(inodes, directories);
+            Err(halt)
+        }
+    }
 }

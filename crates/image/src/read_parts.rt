@@ -1,6 +1,6 @@
-ghost use Rattle.std.specs.Prelude.{◌≡◌, ◌≢◌, ◌≤◌, ◌<◌, ◌+◌, ◌*◌, ◌/◌, ℕ, [], length, slice_index, OnOk};
+ghost use Rattle.std.specs.Prelude.{◌≡◌, ◌≤◌, ◌<◌, ◌+◌, ◌↔◌, length, OnOk, IsTrue};
 ghost use Rattle.directory.specs.Directory.{Continues};
-ghost use Rattle.inode.specs.Inode.{IsInode};
+ghost use Rattle.inode.specs.Inode.{SpellsInode};
 ghost use Rattle.inode.specs.declared.inode.Kind.TheVariants.{Dir};
 ghost use Rattle.journal.specs.Layout.{sector};
 ghost use Rattle.request_log.specs.Slot.{IsSlot, SpellsSlot};
@@ -8,12 +8,14 @@ ghost use Rattle.shared_disk.specs.Disk.{SectorIs};
 ghost use Rattle.space_map.specs.SpaceMap.{SpellsMap};
 ghost use Rattle.volume.specs.Head.{SpellsHead};
 ghost use Rattle.volume.specs.Volume.{pointed};
-ghost use Rattle.image.specs.Mount.{BreaksOff, IsCount, IsDamage, NoDamage, ReadsOnly, Told};
+ghost use Rattle.image.specs.Damage.{BreaksOff, LacksHead, LacksInode, LacksMap, LacksSlot};
+ghost use Rattle.image.specs.Mount.{IsCount, MayStand, NoDamage, ReadsOnly, Told};
 
 use crate::mount_halt::MountHalt;
 use cal_base::Sector;
 use directory::DirBlocks;
 use fence::Port;
+use inode::{Inode, Kind, read_inode};
 use request_log::{Slot, read_slot};
 use shared_disk::PortDisk;
 use space_map::SpaceMap;
@@ -27,6 +29,9 @@ const MAP: u32 = 19;
 
 /// The sector of the first client's slot.
 const FIRST_SLOT: u32 = 20;
+
+/// The sector of the root's inode.
+const FIRST_INODE: u32 = 36;
 
 /// Pointer 1 is the data block in the next sector.
 pub(crate) const BEFORE_BLOCKS: u32 = 547;
@@ -52,7 +57,7 @@ pub(crate) fn read_clients<D: PortDisk>(
     disk: &mut D,
     clients: &mut u8,
 ) -> Result<(), MountHalt>
-    ensures reads { ReadsOnly IsDamage (D.means disk.old) port.now.view (D.fault_count disk.old) result (D.means disk.new) (D.fault_count disk.new) }
+    ensures reads { ReadsOnly LacksHead (D.means disk.old) port.now.view (D.fault_count disk.old) result (D.means disk.new) (D.fault_count disk.new) }
     ensures ok { OnOk result (Told (D.means disk.old) (λ sectors. SpellsHead (sector sectors 0) clients.new)) }
     ensures kept { IsCount clients.old → IsCount clients.new }
 {
@@ -76,7 +81,7 @@ pub(crate) fn read_map<D: PortDisk>(
     disk: &mut D,
     map: &mut SpaceMap,
 ) -> Result<(), MountHalt>
-    ensures reads { ReadsOnly IsDamage (D.means disk.old) port.now.view (D.fault_count disk.old) result (D.means disk.new) (D.fault_count disk.new) }
+    ensures reads { ReadsOnly LacksMap (D.means disk.old) port.now.view (D.fault_count disk.old) result (D.means disk.new) (D.fault_count disk.new) }
     ensures ok { OnOk result (Told (D.means disk.old) (λ sectors. SpellsMap (sector sectors 19) map.new)) }
     ensures kept { length map.old ≡ 2048 → length map.new ≡ 2048 }
 {
@@ -102,7 +107,7 @@ pub(crate) fn read_client_slot<D: PortDisk>(
     slot: &mut Slot,
 ) -> Result<(), MountHalt>
     requires { client < 16 }
-    ensures reads { ReadsOnly IsDamage (D.means disk.old) port.now.view (D.fault_count disk.old) result (D.means disk.new) (D.fault_count disk.new) }
+    ensures reads { ReadsOnly (LacksSlot client) (D.means disk.old) port.now.view (D.fault_count disk.old) result (D.means disk.new) (D.fault_count disk.new) }
     ensures ok { OnOk result (Told (D.means disk.old) (λ sectors. SpellsSlot (sector sectors (20 + client)) slot.new)) }
     ensures kept { IsSlot slot.old → IsSlot slot.new }
 {
@@ -120,6 +125,46 @@ pub(crate) fn read_client_slot<D: PortDisk>(
             sector: FIRST_SLOT + client,
         }),
     }
+}
+
+/// Whether an inode of this number may be so: the root is a directory.
+fn may_stand(number: u32, inode: &Inode) -> bool
+    ensures { IsTrue result ↔ (number ≡ 0 → inode.now.kind ≡ Dir) }
+{
+    match inode.kind {
+        Kind::Dir => true,
+        Kind::Free | Kind::File => number != 0,
+    }
+}
+
+/// Reads an inode.
+pub(crate) fn load_inode<D: PortDisk>(
+    port: &Port,
+    disk: &mut D,
+    number: u32,
+    inode: &mut Inode,
+) -> Result<(), MountHalt>
+    requires { number < 512 }
+    ensures reads { ReadsOnly (LacksInode number) (D.means disk.old) port.now.view (D.fault_count disk.old) result (D.means disk.new) (D.fault_count disk.new) }
+    ensures ok { OnOk result (Told (D.means disk.old) (λ sectors. SpellsInode (sector sectors (36 + number)) inode.new)) }
+    ensures stands { OnOk result (MayStand number inode.new) }
+{
+    let mut sector = [0; 4096];
+    match read_sector(port, disk, FIRST_INODE + number, &mut sector) {
+        Ok(()) => {}
+        Err(halt) => return Err(halt),
+    }
+    let damaged = MountHalt::Damaged {
+        sector: FIRST_INODE + number,
+    };
+    let Ok(read) = read_inode(&sector) else {
+        return Err(damaged);
+    };
+    if !may_stand(number, &read) {
+        return Err(damaged);
+    }
+    *inode = read;
+    Ok(())
 }
 
 /// Reads the next block of a directory.

@@ -12,6 +12,7 @@ ghost use Rattle.image.specs.Planning.{plan_of, touch_numbers};
 use crate::change_plan::{ChangePlan, TouchList};
 use crate::image::Image;
 use crate::making::last_of;
+use crate::room::blank_inode;
 use crate::touches::{touched_rmdir, touched_unlink};
 use cal_base::{ClientId, Ino, Oom};
 use directory::DirBlocks;
@@ -24,12 +25,7 @@ use volume_edit::{Edit, InodeEdit, Leaving};
 pub(crate) fn free_inode() -> Inode
     ensures { result ≡ free_inode }
 {
-    Inode {
-        kind: Kind::Free,
-        named: false,
-        size: 0,
-        blocks: [0; 64],
-    }
+    blank_inode(Kind::Free, false)
 }
 
 /// A file that no directory names.

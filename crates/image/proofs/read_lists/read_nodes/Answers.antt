@@ -1,37 +1,33 @@
-use Rattle.std.proofs.Common.{arith}
-use Rattle.std.proofs.lemmas.List.{length-set}
-use Rattle.image.specs.Mount.{IsDamage}
-use Rattle.image.proofs.Listing.{nodes_kept, nodes_more}
-use Rattle.image.proofs.Reading.{reads_from, told_before}
+use Rattle.std.proofs.Common.{sym, arith}
+use Rattle.image.specs.Damage.{FirstBlock, FirstInode, FirstNode}
+use Rattle.image.specs.Damage.FirstNode.{block, inode}
+use Rattle.image.proofs.Fresh.{nodes_cleared}
+use Rattle.image.proofs.Listing.{inodes_stand}
+use Rattle.image.proofs.Reading.{reads_ok, reads_then, reads_widen, told_before}
 use Rattle.image.proofs.read_lists.read_nodes.Goals as goal
 
-pub returns-in-Err-clause-kept : goal.returns-in-Err-clause-kept
-returns-in-Err-clause-kept g c = λ are.
-    let i = c.loop-number.invariant in
-    let inode_count = i.inode_count in
-    let directory_count = i.directory_count in
-    let test = c.loop-number-test.true in
-    nodes_kept c.loop-number.inodes c.loop-number.directories c.loop-number.number _ _ _ _ (omega arith) (omega arith) c.in-Err.ensures.kept (i.kept are)
+pub read_directories-requires-clause-read : goal.read_directories-requires-clause-read
+read_directories-requires-clause-read g c = λ s t. c.in-Ok.ensures.ok s (told_before _ (g.D.PortDisk.means c.args.disk.now) s (sym c.in-Ok.ensures.reads.same) t)
 
-pub loop-number-preserved : goal.loop-number-preserved
-loop-number-preserved g c =
-    let i = c.loop-number.invariant in
-    let inode_count = i.inode_count in
-    let directory_count = i.directory_count in
-    let test = c.loop-number-test.true in
-    let now = c.in-Ok.ensures in
-    let reads = reads_from IsDamage _ _ _ _ _ _ _ _ i.same i.later now.reads in
-    record {
-      reads = λ some. reads_from IsDamage _ _ _ _ _ _ _ _ i.same i.later now.reads;
-      same = reads.same;
-      later = reads.later;
-      read = λ s t. nodes_more s c.loop-number.inodes c.loop-number.directories c.loop-number.number _ _ (now.ok s (told_before (g.D.PortDisk.means c.args.disk.now) _ s i.same t)) (i.read s t);
-      kept = λ are. nodes_kept c.loop-number.inodes c.loop-number.directories c.loop-number.number _ _ _ _ (omega arith) (omega arith) now.kept (i.kept are);
-      inode_count = (let size = length-set c.loop-number.inodes c.loop-number.number c.read_node.new.inode in omega arith);
-      directory_count = (let size = length-set c.loop-number.directories c.loop-number.number c.read_node.new.directory in omega arith);
-    }
+pub returns-in-Err-clause-reads : goal.returns-in-Err-clause-reads
+returns-in-Err-clause-reads g c = reads_widen FirstInode FirstNode _ _ _ _ _ _ (λ s at t first. inode first) c.in-Err.ensures.reads
 
-pub returns-clause-ok : goal.returns-clause-ok
-returns-clause-ok g c = λ s t number inode slots below.
-    let test = c.loop-number-test.false in
-    c.loop-number.invariant.read s t number inode slots (omega arith)
+pub returns-in-Err-clause-nodes : goal.returns-in-Err-clause-nodes
+returns-in-Err-clause-nodes g c = nodes_cleared _ _ c.clear_nodes.ensures.inodes c.clear_nodes.ensures.directories
+
+pub returns-in-Ok-read_directories-clause-reads : goal.returns-in-Ok-read_directories-clause-reads
+returns-in-Ok-read_directories-clause-reads g c =
+    reads_then FirstNode _ _ _ _ _ _ _ _ (reads_ok FirstInode FirstNode _ _ _ _ _ c.in-Ok.ensures.reads) (reads_ok FirstBlock FirstNode _ _ _ _ _ c.in-Ok-read_directories.ensures.reads)
+
+pub returns-in-Err-read_directories-clause-reads : goal.returns-in-Err-read_directories-clause-reads
+returns-in-Err-read_directories-clause-reads g c =
+    let count = c.in-Ok.ensures.count in
+    reads_then FirstNode _ _ _ _ _ _ _ _ (reads_ok FirstInode FirstNode _ _ _ _ _ c.in-Ok.ensures.reads)
+    (reads_widen FirstBlock FirstNode _ _ _ _ _ _ (λ s at t first. block (inodes_stand s _ 512 (omega arith) c.in-Ok.ensures.stand
+    (c.in-Ok.ensures.ok s (told_before _ (g.D.PortDisk.means c.args.disk.now) s (sym c.in-Ok.ensures.reads.same) t))) first) c.in-Err-read_directories.ensures.reads)
+
+pub returns-in-Err-read_directories-clause-nodes : goal.returns-in-Err-read_directories-clause-nodes
+returns-in-Err-read_directories-clause-nodes g c = nodes_cleared _ _ c.clear_nodes-in-Err-read_directories.ensures.inodes c.clear_nodes-in-Err-read_directories.ensures.directories
+
+pub returns-in-Ok-read_directories-clause-ok : goal.returns-in-Ok-read_directories-clause-ok
+returns-in-Ok-read_directories-clause-ok g c = λ s t. c.in-Ok-read_directories.ensures.ok s (told_before (g.D.PortDisk.means c.args.disk.now) _ s c.in-Ok.ensures.reads.same t)

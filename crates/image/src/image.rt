@@ -83,6 +83,7 @@ impl Image {
         requires { client.0 < 16 }
         ensures at { result.now ≡ slot_at self.now.slots client.0 }
         ensures slot { IsSlot result.now }
+        ensures volume { IsVolume self.now }
     {
         &self.slots[client.0 as usize]
     }

@@ -169,6 +169,7 @@ impl Image {
         requires moves { if_there self.now (move_of (shown self.now) path.now goal.now) ≡ Ok shift }
         ensures { plan_of result ≡ moving_by self.now client number opened.now (touch_numbers touches) (Ok shift) (last_of path.now) (last_of goal.now) }
     {
+        // Reading a field brings in that the volume is within its grammar.
         let _ = &self.clients;
         if shift.is_same {
             return self.standing(alloc, client, number, None);

@@ -87,6 +87,7 @@ impl Image {
         ensures edit { result ≡ reap_of ino }
         ensures is { IsEdit self.now result }
     {
+        // Reading a field brings in that the volume is within its grammar.
         let _ = &self.clients;
         Edit {
             slot: None,
@@ -106,7 +107,6 @@ impl Image {
         ensures at { result ≡ slot_at self.now.slots client.0 }
         ensures volume { IsVolume self.now }
     {
-        let _ = &self.clients;
         slot_again(self.slot(client))
     }
 

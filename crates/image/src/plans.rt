@@ -70,6 +70,7 @@ impl Image {
         ensures plan { IfOk result (λ p. plan_of p ≡ plan self.now client number call.now opened.now) }
         ensures volume { IsVolume self.now }
     {
+        // Reading a field brings in that the volume is within its grammar.
         let _ = &self.clients;
         match call {
             Call::Create(path) => self.plan_making(alloc, client, number, path, Kind::File),

@@ -9,6 +9,7 @@ ghost use Rattle.image.specs.Mount.{AreInodesRead, AreNodes, AreNodesRead, AreSl
 use crate::made::clear_nodes;
 use crate::mount_halt::MountHalt;
 use crate::read_parts::{load_inode, read_block, read_client_slot};
+use cal_base::INODES;
 use directory::DirBlocks;
 use fence::Port;
 use inode::{Inode, Kind};
@@ -48,7 +49,7 @@ pub(crate) fn read_inodes<D: PortDisk>(
     ensures stand { OnOk result (MayAllStand 512 inodes.new) }
     ensures count { length inodes.new ≡ 512 }
 {
-    for number in 0..512u32 {
+    for number in 0..INODES as u32 {
         match load_inode(port, disk, number, &mut inodes[number as usize]) {
             Ok(()) => {}
             Err(halt) => return Err(halt),
@@ -124,7 +125,7 @@ pub(crate) fn read_directories<D: PortDisk>(
     ensures nodes { OnOk result (AreNodes inodes.now directories.new) }
     ensures count { length directories.new ≡ 512 }
 {
-    for number in 0..512u32 {
+    for number in 0..INODES as u32 {
         let at = number as usize;
         match read_directory(port, disk, number, &inodes[at], &mut directories[at]) {
             Ok(()) => {}

@@ -9,6 +9,7 @@ pub mod Kept
 pub mod Live
 pub mod Marked
 pub mod MarkedBlocks
+pub mod OneWhole
 pub mod PartCases
 pub mod PartLists
 pub mod Pointers

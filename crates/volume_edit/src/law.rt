@@ -1,6 +1,6 @@
-ghost use Rattle.std.specs.Prelude.{◌≡◌, ℕ, List, length, Some, slice_get};
+ghost use Rattle.std.specs.Prelude.{◌≡◌, ◌≢◌, ℕ, List, length, Some, slice_get};
 ghost use Rattle.inode.specs.declared.inode.Inode.{Inode};
-ghost use Rattle.inode.specs.declared.inode.Kind.TheVariants.{File};
+ghost use Rattle.inode.specs.declared.inode.Kind.TheVariants.{Dir, File};
 ghost use Rattle.shared_disk.specs.Homes.{IsTransaction};
 ghost use Rattle.shared_disk.specs.Sectors.{written};
 ghost use Rattle.volume.specs.Stands.{AreBlocksKept};
@@ -29,7 +29,15 @@ pub fn an_edit_is_spelled()
 {}
 
 /// The homes of an edit hold no byte of a file: where they are written, each file has the bytes that it
-/// had, also one that the edit frees.
+/// had, also one that the edit frees. Nor do they hold a byte of a file as it is after the edit: its bytes
+/// are those that the sectors had at its pointers before the homes were written.
 pub fn an_edit_keeps_files()
-    ensures { (sectors : List (List ℕ)) (v : Volume) (e : Edit) (homes : List (ℕ × List ℕ)) → length sectors ≡ 2596 → SpellsVolume sectors v → IsVolume v → AreBlocksKept v → IsEdit v e → TakesFree v e → AreHomes v e homes → (number : ℕ) (inode : Inode) → slice_get v.inodes number ≡ Some inode → inode.kind ≡ File → (i : ℕ) → file_byte (written sectors homes) inode i ≡ file_byte sectors inode i }
+    ensures before { (sectors : List (List ℕ)) (v : Volume) (e : Edit) (homes : List (ℕ × List ℕ)) → length sectors ≡ 2596 → SpellsVolume sectors v → IsVolume v → AreBlocksKept v → IsEdit v e → TakesFree v e → AreHomes v e homes → (number : ℕ) (inode : Inode) → slice_get v.inodes number ≡ Some inode → inode.kind ≡ File → (i : ℕ) → file_byte (written sectors homes) inode i ≡ file_byte sectors inode i }
+    ensures after { (sectors : List (List ℕ)) (v : Volume) (e : Edit) (homes : List (ℕ × List ℕ)) → length sectors ≡ 2596 → SpellsVolume sectors v → IsVolume v → AreBlocksKept v → IsEdit v e → TakesFree v e → AreHomes v e homes → (number : ℕ) (inode : Inode) → slice_get (edited v e).inodes number ≡ Some inode → inode.kind ≢ Dir → (i : ℕ) → file_byte (written sectors homes) inode i ≡ file_byte sectors inode i }
+{}
+
+/// Sectors spell one volume within its grammar, the slots of each inode included: all of a server's image
+/// is what its sectors tell.
+pub fn one_whole_volume()
+    ensures { (sectors : List (List ℕ)) (a b : Volume) → SpellsVolume sectors a → SpellsVolume sectors b → IsVolume a → IsVolume b → a ≡ b }
 {}

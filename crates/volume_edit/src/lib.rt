@@ -12,4 +12,5 @@ pub use blocks::{an_edit_keeps_blocks, data_goes_to_free_blocks};
 pub use edit::{Edit, Entering, Growth, InodeEdit, Leaving, SlotEdit};
 pub use law::{
     an_edit_is_spelled, an_edit_keeps_files, an_edit_keeps_the_grammar, homes_are_a_transaction,
+    one_whole_volume,
 };

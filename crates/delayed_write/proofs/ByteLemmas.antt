@@ -1,7 +1,7 @@
 use Rattle.std.proofs.Common.{◌≡◌, ◌+◌, ◌-◌, ◌*◌, ◌<◌, ◌≤◌, ◌/◌, ◌%◌, ◌⊎◌, inl, inr, ℕ, zero, suc, List, ◌++◌, take, drop, replicate, length, get_or, refl, sym, ap, ◌∙◌, arith, length-append}
 use Rattle.std.proofs.lemmas.Bool.{cases_lt}
-use Rattle.std.proofs.lemmas.List.{length-take, get_or_append_left, get_or-append_right, get_or-take, get_or-drop, get_or_past, length-replicate, length-take-le, drop-replicate, take-take, take_all}
-use Rattle.file_bytes.specs.Bytes.{block_at, grown, overlaid, resized, written}
+use Rattle.std.proofs.lemmas.List.{length-take, get_or_append_left, get_or-append_right, get_or-take, get_or-drop, get_or_past, length-replicate, length-take-le}
+use Rattle.file_bytes.specs.Bytes.{block_at, grown, resized, written}
 
 -- a byte of zeros, also past them
 pub zero_byte : (n i : ℕ) → get_or (replicate {A = ℕ} n 0) i 0 ≡ 0

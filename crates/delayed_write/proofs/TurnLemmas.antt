@@ -1,4 +1,4 @@
-use Rattle.std.proofs.Common.{◌≡◌, ◌+◌, ◌-◌, ◌<◌, ◌≤◌, ◌/◌, inl, inr, ℕ, Bool, true, false, nat_lt, List, Option, length, get_or, refl, sym, ap, subst, ◌∙◌, arith, min}
+use Rattle.std.proofs.Common.{◌^◌, ◌≡◌, ◌+◌, ◌-◌, ◌<◌, ◌≤◌, ◌/◌, inl, inr, ℕ, Bool, true, false, nat_lt, List, Option, length, get_or, refl, sym, ap, subst, ◌∙◌, arith, min}
 use Rattle.std.proofs.lemmas.Bool.{cases_Bool, cases_lt, cond-true, cond-false, false_from_ne_true, lt-ltb, le-ltb, true≢false}
 use Rattle.std.proofs.lemmas.List.{get_or_past, take_all}
 use Rattle.cal_base.specs.declared.identity.Ino.{Ino}
@@ -168,9 +168,9 @@ clean_turns kept d same =
     })
 
 -- the flush of a file keeps the rules of flushes
-pub flush_is : (d : Delayed) (ino : Ino) (leave_data leave_attr : Hold) (number : ℕ) → IsDelayed d → 1 ≤ number → ino.0 < 512 → hold_number leave_data ≤ 1 → hold_number leave_attr ≤ 1
+pub flush_is : (d : Delayed) (ino : Ino) (leave_data leave_attr : Hold) (number : ℕ) → IsDelayed d → 1 ≤ number → number < 2 ^ 64 → ino.0 < 512 → hold_number leave_data ≤ 1 → hold_number leave_attr ≤ 1
     → IsFlush (flush_of d ino leave_data leave_attr number)
-flush_is d ino leave_data leave_attr number valid counted inode data_left attr_left =
+flush_is d ino leave_data leave_attr number valid counted bits inode data_left attr_left =
     let end : ℕ = block_count (length d.contents) in
     let size = valid.size in
     let all : length (pieces_of d) ≡ marked_count d.marks
@@ -182,6 +182,7 @@ flush_is d ino leave_data leave_attr number valid counted inode data_left attr_l
     ∙ pieces_stop d.contents d.marks (block_count (length d.contents)) (64 - block_count (length d.contents)) above in
     record {
       number = counted;
+      fits = bits;
       ino = inode;
       size = size;
       cut = valid.cut;

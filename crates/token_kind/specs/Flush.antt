@@ -1,4 +1,4 @@
-use Rattle.std.specs.Prelude.{◌≡◌, ◌≤◌, ◌<◌, ◌+◌, ◌/◌, ◌%◌, ℕ, Bool, true, ◌&&◌, nat_eq, nat_le, nat_lt, if◌then◌else◌, IsTrue, Option, Some, None, List, [], ◌∷◌, All, length, slice_index}
+use Rattle.std.specs.Prelude.{◌≡◌, ◌≤◌, ◌<◌, ◌^◌, ◌+◌, ◌/◌, ◌%◌, ℕ, Bool, true, ◌&&◌, nat_eq, nat_le, nat_lt, if◌then◌else◌, IsTrue, Option, Some, None, List, [], ◌∷◌, All, length, slice_index}
 use Rattle.std.specs.Map.{lookup}
 use Rattle.token_kind.specs.Hold.{hold_number}
 use Rattle.token_kind.specs.declared.flush.Flush.{Flush}
@@ -36,10 +36,12 @@ abbrev pub are_rising : ℕ → ℕ → List (ℕ × List ℕ) → Bool
 are_rising least end [] = true
 are_rising least end (piece ∷ pieces) = nat_le least piece.0 && nat_lt piece.0 end && are_rising (piece.0 + 1) end pieces
 
--- what a flush may be: it has a number, an inode of the volume, a size that a file can have, a cut within
--- it, at most Read left of both classes, and at most 16 whole blocks of the file, by rising index
+-- what a flush may be: it has a number of 64 bits from 1 on, an inode of the volume, a size that a file can
+-- have, a cut within it, at most Read left of both classes, and at most 16 whole blocks of the file, by
+-- rising index
 pub record IsFlush (f : Flush) : Type 0 where
   pub number : 1 ≤ f.number
+  pub fits : f.number < 2 ^ 64
   pub ino : f.ino.0 < 512
   pub size : f.size ≤ 262144
   pub cut : f.cut ≤ f.size

@@ -1,3 +1,4 @@
 pub mod Class
 pub mod Hold
 pub mod Flush
+pub mod Kept

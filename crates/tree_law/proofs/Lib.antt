@@ -12,3 +12,5 @@ pub mod Places
 pub mod PurgeLemmas
 pub mod Sweeping
 pub mod Walks
+pub mod EntryOrder
+pub mod NameTests

@@ -13,3 +13,5 @@ pub mod Path
 pub mod Rename
 pub mod Resolve
 pub mod Tree
+pub mod Entries
+pub mod NameTest

@@ -1,4 +1,6 @@
 ghost use Rattle.std.specs.Prelude.{◌≡◌, ◌≢◌, ◌==◌, ℕ, List, IfOk, IsErrOf, IsTrue, ◌↔◌, ◌<◌, ◌∷◌, length, MatchOption};
+ghost use Rattle.std.specs.List.{list_all};
+ghost use Rattle.tree_law.specs.NameTest.{is_name, is_name_byte};
 ghost use Rattle.tree_law.specs.Path.{IsPath, IsName, path_text, IsNoPathText};
 ghost use Rattle.tree_law.specs.declared.path.ReadPathError.TheVariants.{OutOfMemory};
 
@@ -80,15 +82,29 @@ impl From<AllocError> for ReadPathError {
 
 /// Whether these bytes are a name: 1 to 27 graphic ASCII bytes without `/`, and neither `.` nor `..`.
 pub fn is_name(bytes: &[u8]) -> bool
-    ensures { IsTrue result ↔ IsName bytes.now }
+    ensures name { IsTrue result ↔ IsName bytes.now }
+    ensures test { result ≡ is_name bytes.now }
 {
-    !bytes.is_empty()
+    name_test(bytes)
+}
+
+#[tactic(auto, unfolding(crate::specs::NameTest::is_name))]
+fn name_test(bytes: &[u8]) -> bool
+    ensures { result ≡ is_name bytes.now }
+{
+    1 <= bytes.len()
         && bytes.len() <= NAME_BYTES
-        && bytes
-            .iter()
-            .all(|byte| *byte >= 33 && *byte <= 126 && *byte != 47)
+        && are_name_bytes(bytes)
         && bytes != b".".as_slice()
         && bytes != b"..".as_slice()
+}
+
+fn are_name_bytes(bytes: &[u8]) -> bool
+    ensures { result ≡ list_all is_name_byte bytes.now }
+{
+    bytes
+        .iter()
+        .all(|byte| 33 <= *byte && *byte <= 126 && *byte != 47)
 }
 
 /// A copy of a name's bytes.

@@ -4,7 +4,7 @@ use Rattle.std.proofs.lemmas.Bool.{cases_lt, cond-false, cond-true, le-ltb, lt-l
 use Rattle.std.proofs.lemmas.List.{get_or_past}
 use Rattle.journal.specs.Layout.{sector}
 use Rattle.shared_disk.specs.Sectors.{written}
-use Rattle.token_kind.specs.Flush.{IsFlushed, block_count, byte_by, flushed_byte}
+use Rattle.token_kind.specs.Flush.{IsFlushed, block_count, byte_by, flushed_byte, piece_at}
 use Rattle.token_kind.specs.declared.flush.Flush.{Flush}
 use Rattle.volume.specs.Stands.{AreBlocksKept}
 use Rattle.volume.specs.Volume.{SpellsVolume, Volume, byte_behind, file_byte}
@@ -13,7 +13,7 @@ use Rattle.volume_edit.specs.Blocks.{GoToFree}
 use Rattle.volume_plan.proofs.FlushedInode.{CanFlush, IsAsBefore, IsAtPiece, IsHole, new_of, old_of, pointer_cases, there}
 use Rattle.volume_plan.proofs.FreeBlocks.{AreFreeBlocks, least_are_free}
 use Rattle.volume_plan.proofs.LowHomes.{byte_same}
-use Rattle.volume_plan.specs.Flushing.{blocks_for, data_writes}
+use Rattle.volume_plan.specs.Flushing.{blocks_for, byte_over, data_writes}
 
 go_to_free : (v : Volume) (low : ℕ) (blocks : List ℕ) (pieces : List (ℕ × List ℕ)) → AreFreeBlocks v.free low blocks → GoToFree v (data_writes blocks pieces)
 go_to_free v low [] [] are = tt
@@ -78,3 +78,35 @@ flushed_bytes sectors others v flush kept contents can blocks spells is bytes sa
         ap (λ (n : ℕ). byte_behind others n i) hole.names
         ∙ sym (cond-false (nat_lt (i / 4096) (block_count flush.cut)) (slice_index kept i) 0 (le-ltb (i / 4096) (block_count flush.cut) hole.from))
         ∙ sym (ap (λ (o : Option (List ℕ)). byte_by o kept flush.cut i) hole.unplaced.piece)
+
+-- the bytes of the flushed inode, by the pieces and by the sectors as they were
+pub laid_bytes : (sectors : List (List ℕ)) (v : Volume) (flush : Flush) → CanFlush sectors v flush → AreBlocksKept v → SpellsVolume sectors v
+    → (i : ℕ) → file_byte (written sectors (data_of v flush)) (new_of v flush) i ≡ byte_over (piece_at flush.pieces (i / 4096)) i (file_byte sectors (new_of v flush) i)
+laid_bytes sectors v flush can blocks spells i =
+    elim (pointer_cases sectors v flush (i / 4096) can) [
+      | inl at ↦ of_piece at
+      | inr other ↦ elim other [
+        | inl before ↦ as_before before
+        | inr hole ↦ of_hole hole
+      ]
+    ]
+  where
+    of_piece : IsAtPiece sectors v flush (i / 4096) → file_byte (written sectors (data_of v flush)) (new_of v flush) i ≡ byte_over (piece_at flush.pieces (i / 4096)) i (file_byte sectors (new_of v flush) i)
+    of_piece at =
+        ap (λ (n : ℕ). byte_behind (written sectors (data_of v flush)) n i) at.names
+        ∙ byte_in (written sectors (data_of v flush)) at.placed.block i
+        ∙ ap (λ (s : List ℕ). slice_index s (i % 4096)) at.placed.stored
+        ∙ sym (ap (λ (o : Option (List ℕ)). byte_over o i (file_byte sectors (new_of v flush) i)) at.placed.piece)
+
+    as_before : IsAsBefore v flush (i / 4096) → file_byte (written sectors (data_of v flush)) (new_of v flush) i ≡ byte_over (piece_at flush.pieces (i / 4096)) i (file_byte sectors (new_of v flush) i)
+    as_before before =
+        ap (λ (n : ℕ). byte_behind (written sectors (data_of v flush)) n i) before.names
+        ∙ data_bytes sectors v (data_of v flush) (data_goes_to_free v flush) spells blocks flush.ino.0 (old_of v flush) (there sectors v flush can) i
+        ∙ sym (ap (λ (n : ℕ). byte_behind sectors n i) before.names)
+        ∙ sym (ap (λ (o : Option (List ℕ)). byte_over o i (file_byte sectors (new_of v flush) i)) before.unplaced.piece)
+
+    of_hole : IsHole v flush (i / 4096) → file_byte (written sectors (data_of v flush)) (new_of v flush) i ≡ byte_over (piece_at flush.pieces (i / 4096)) i (file_byte sectors (new_of v flush) i)
+    of_hole hole =
+        ap (λ (n : ℕ). byte_behind (written sectors (data_of v flush)) n i) hole.names
+        ∙ sym (ap (λ (n : ℕ). byte_behind sectors n i) hole.names)
+        ∙ sym (ap (λ (o : Option (List ℕ)). byte_over o i (file_byte sectors (new_of v flush) i)) hole.unplaced.piece)

@@ -66,7 +66,7 @@ zeros_there (suc n) (suc place) = zeros_there n place
 free_points : (place block : ℕ) → slice_index (free_inode).blocks place ≡ block + 1 → ⊥
 free_points place block is = (let none : get_or (replicate {A = ℕ} 64 0) place 0 ≡ 0 = zeros_there 64 place in absurd (omega arith))
 
-nameless_points : (kind : Kind) (inode : Inode) (opened : Bool) (place block : ℕ) → slice_index (nameless kind inode opened).blocks place ≡ block + 1 → slice_index inode.blocks place ≡ block + 1
+pub nameless_points : (kind : Kind) (inode : Inode) (opened : Bool) (place block : ℕ) → slice_index (nameless kind inode opened).blocks place ≡ block + 1 → slice_index inode.blocks place ≡ block + 1
 nameless_points File inode true place block is = is
 nameless_points File inode false place block is = absurd (free_points place block is)
 nameless_points Dir inode opened place block is = absurd (free_points place block is)

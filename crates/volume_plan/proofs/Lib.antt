@@ -29,6 +29,7 @@ pub mod MovedPlaces
 pub mod MovedSlots
 pub mod Named
 pub mod NamesOf
+pub mod OpenFiles
 pub mod Pieces
 pub mod PlanEdits
 pub mod PlanTouches
@@ -52,4 +53,5 @@ pub mod SlotEntries
 pub mod SlotNumbers
 pub mod Standing
 pub mod Stopping
+pub mod TakenFree
 pub mod Whys

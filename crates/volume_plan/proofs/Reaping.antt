@@ -32,7 +32,7 @@ from_one v zero inode is there file =
     absurd (cc)
 from_one v (suc n) inode is there file = omega arith
 
-names_none : (place block : ℕ) → slice_index (replicate {A = ℕ} 64 0) place ≢ block + 1
+pub names_none : (place block : ℕ) → slice_index (replicate {A = ℕ} 64 0) place ≢ block + 1
 names_none place block e = (let z : get_or (replicate {A = ℕ} 64 0) place 0 ≡ 0 = small_zeros 64 place in omega (arith, z, e))
 
 pub reap_inode : (v : Volume) (ino : Ino) (inode : Inode) → IsVolume v → slice_get v.inodes ino.0 ≡ Some inode → inode.kind ≡ File → IsInodeEdit (record { ino = ino; inode = free_inode })

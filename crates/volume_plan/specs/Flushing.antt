@@ -1,8 +1,9 @@
 -- The plan of a flush: its blocks go to the least free data blocks, and the inode points at them.
-use Rattle.std.specs.Prelude.{◌≡◌, ◌≤◌, ◌<◌, ◌+◌, ◌-◌, ◌^◌, ◌++◌, ℕ, suc, Bool, true, false, List, [], ◌∷◌, length, replicate, take, slice_set, Option, Some, None}
+use Rattle.std.specs.Prelude.{◌≡◌, ◌≤◌, ◌<◌, ◌+◌, ◌-◌, ◌^◌, ◌%◌, ◌++◌, ℕ, suc, Bool, true, false, List, [], ◌∷◌, length, replicate, take, slice_index, slice_set, Option, Some, None}
 use Rattle.cal_base.specs.declared.identity.ClientId.{ClientId}
 use Rattle.inode.specs.Inode.{block_count}
 use Rattle.inode.specs.declared.inode.Inode.{Inode}
+use Rattle.inode.specs.declared.inode.Kind.TheVariants.{File}
 use Rattle.shared_disk.specs.Sectors.{cut, written}
 use Rattle.token_kind.specs.Flush.{IsFlush, IsFlushed}
 use Rattle.token_kind.specs.declared.flush.Flush.{Flush}
@@ -54,6 +55,24 @@ abbrev pub data_writes : List ℕ → List (ℕ × List ℕ) → List (ℕ × Li
 data_writes blocks [] = []
 data_writes [] (piece ∷ pieces) = []
 data_writes (block ∷ blocks) (piece ∷ pieces) = (548 + block, piece.1) ∷ data_writes blocks pieces
+
+-- a flush that a volume can take: of a file, with as many free blocks as it has pieces
+pub record CanTake (v : Volume) (flush : Flush) : Type 0 where
+  pub is : IsFlush flush
+  pub file : (inode_at v.inodes flush.ino.0).kind ≡ File
+  pub enough : length flush.pieces ≤ free_count v
+
+-- the sectors with a flush's pieces in their blocks, and the inode that points at them
+abbrev pub with_pieces : List (List ℕ) → Volume → Flush → List (List ℕ)
+with_pieces sectors v flush = written sectors (data_writes (blocks_for v flush) flush.pieces)
+
+abbrev pub inode_flushed : Volume → Flush → Inode
+inode_flushed v flush = flushed_inode (inode_at v.inodes flush.ino.0) flush (blocks_for v flush)
+
+-- a byte over which a flush's pieces are laid: that of the piece, if one holds it, or the one beneath
+abbrev pub byte_over : Option (List ℕ) → ℕ → ℕ → ℕ
+byte_over (Some piece) i beneath = slice_index piece (i % 4096)
+byte_over None i beneath = beneath
 
 -- what a flush of a client alters
 abbrev pub flush_of : Volume → ClientId → Flush → Edit

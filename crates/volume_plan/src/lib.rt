@@ -4,7 +4,7 @@
 
 mod edits;
 
-pub use edits::a_plan_is_an_edit;
+pub use edits::{a_plan_asks_only_what_is_open, a_plan_is_an_edit, a_plan_takes_free_blocks};
 
 mod changing;
 mod flushing;
@@ -16,7 +16,7 @@ mod removing;
 mod showing;
 
 pub use changing::a_change_stands;
-pub use flushing::a_flush_stands;
+pub use flushing::{a_flush_reads_with_its_pieces, a_flush_stands};
 pub use making::{a_creation_stands, a_plan_touches_what_its_change_does, a_refusal_stands};
 pub use moving::a_rename_stands;
 pub use numbering::a_number_commits_once;

@@ -1,9 +1,13 @@
 use Rattle.std.specs.Prelude.{ℕ, ◌+◌, ◌-◌, ◌^◌, ◌≤◌, min, List}
 use Rattle.cal_base.specs.Memory.{Memory}
 
+-- a count that goes up by one, and at the last u64 stays there
+abbrev pub counted_up : ℕ → ℕ
+counted_up count = min (count + 1) (2 ^ 64 - 1)
+
 -- a count of faults rose; a count that stands at the last u64 counts as risen
 abbrev pub Rose : ℕ → ℕ → Type 0
-Rose before now = min (before + 1) (2 ^ 64 - 1) ≤ now
+Rose before now = counted_up before ≤ now
 
 -- a source with listed faults: the bytes left, the numbers of the calls that fail, the calls and the faults so far
 pub record FaultyRest : Type 0 where

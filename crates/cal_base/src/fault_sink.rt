@@ -1,6 +1,6 @@
-ghost use Rattle.std.specs.Prelude.{◌≡◌, ◌+◌, ◌-◌, ◌^◌, ◌≤◌, ◌↔◌, length, min, Some, IsErr, OnOk, OnErr, Contains};
+ghost use Rattle.std.specs.Prelude.{◌≡◌, ◌+◌, ◌≤◌, ◌↔◌, length, Some, IsErr, OnOk, OnErr, Contains};
 ghost use Rattle.std.specs.Io.KnownBytes.{append_known};
-ghost use Rattle.cal_base.specs.Faults.{Rose, FaultyMemory};
+ghost use Rattle.cal_base.specs.Faults.{Rose, counted_up};
 ghost use Rattle.cal_base.specs.Sink.{TakesPrefix};
 
 use crate::failed::Failed;
@@ -9,7 +9,8 @@ use crate::oom::Oom;
 use crate::sink::Sink;
 use std::marker::Model;
 
-/// A sink in memory whose listed calls of `write`, counted from 0, fail and take nothing.
+/// A sink in memory whose listed calls of `write`, counted from 0, fail and take nothing. Only a call of
+/// `write` counts as one, and the count of faults rises in those that fail alone.
 #[derive(Drop)]
 pub struct FaultSink {
     sink: MemSink,
@@ -54,7 +55,15 @@ impl Sink for FaultSink {
 
     ghost fault_count = { λ it. it.faults };
 
-    fn reserve(&mut self, bytes: usize) -> Result<(), Oom> {
+    fn reserve(&mut self, bytes: usize) -> Result<(), Oom>
+        ensures room { OnOk result (bytes ≤ self.new.memory.room) }
+        ensures oom { OnErr result (self.new.memory.room ≡ self.old.memory.room) }
+        ensures keeps { self.old.memory.room ≤ self.new.memory.room }
+        ensures held { Some self.new.memory.bytes ≡ Some self.old.memory.bytes }
+        ensures faults { self.new.faults ≡ self.old.faults }
+        ensures calls { self.new.calls ≡ self.old.calls }
+        ensures fails { self.new.fails ≡ self.old.fails }
+    {
         self.sink.reserve(bytes)
     }
 
@@ -67,7 +76,9 @@ impl Sink for FaultSink {
         ensures later { self.old.faults ≤ self.new.faults }
         ensures listed { IsErr result ↔ Contains self.old.fails self.old.calls }
         ensures nothing_taken { OnErr result (self.new.memory ≡ self.old.memory) }
-        ensures calls { self.new.calls ≡ min (self.old.calls + 1) (2 ^ 64 - 1) }
+        ensures raised { OnErr result (self.new.faults ≡ counted_up self.old.faults) }
+        ensures unlisted { OnOk result (self.new.faults ≡ self.old.faults) }
+        ensures calls { self.new.calls ≡ counted_up self.old.calls }
         ensures fails { self.new.fails ≡ self.old.fails }
     {
         let fails = self.fails.contains(&self.calls);

@@ -1,5 +1,5 @@
-ghost use Rattle.std.specs.Prelude.{◌≡◌, ◌+◌, ◌-◌, ◌^◌, ◌≤◌, ◌↔◌, min, Some, IsErr, IfOk, OnErr, Contains};
-ghost use Rattle.cal_base.specs.Faults.{Rose, FaultyRest};
+ghost use Rattle.std.specs.Prelude.{◌≡◌, ◌≤◌, ◌↔◌, Some, IsErr, IfOk, OnOk, OnErr, Contains};
+ghost use Rattle.cal_base.specs.Faults.{Rose, counted_up};
 ghost use Rattle.cal_base.specs.Source.{Reads};
 
 use crate::failed::Failed;
@@ -7,7 +7,8 @@ use crate::mem_source::MemSource;
 use crate::source::Source;
 use std::marker::Model;
 
-/// A source in memory whose listed calls of `read`, counted from 0, fail.
+/// A source in memory whose listed calls of `read`, counted from 0, fail, and in these alone the count
+/// of faults rises.
 #[derive(Drop)]
 pub struct FaultSource {
     source: MemSource,
@@ -49,7 +50,9 @@ impl Source for FaultSource {
         ensures counted { OnErr result (Rose self.old.faults self.new.faults) }
         ensures later { self.old.faults ≤ self.new.faults }
         ensures listed { IsErr result ↔ Contains self.old.fails self.old.calls }
-        ensures calls { self.new.calls ≡ min (self.old.calls + 1) (2 ^ 64 - 1) }
+        ensures raised { OnErr result (self.new.faults ≡ counted_up self.old.faults) }
+        ensures unlisted { OnOk result (self.new.faults ≡ self.old.faults) }
+        ensures calls { self.new.calls ≡ counted_up self.old.calls }
         ensures fails { self.new.fails ≡ self.old.fails }
     {
         let fails = self.fails.contains(&self.calls);

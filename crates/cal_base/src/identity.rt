@@ -1,3 +1,5 @@
+use crate::limits::BLOCK_SIZE;
+
 /// A client, 0 to 15.
 #[derive(Clone, Copy, Debug, PartialEq, Eq, PartialOrd, Ord, Hash)]
 pub struct ClientId(pub u8);
@@ -31,4 +33,4 @@ impl Ino {
 }
 
 /// The bytes of one sector of the disk.
-pub type Sector = [u8; 4096];
+pub type Sector = [u8; BLOCK_SIZE];

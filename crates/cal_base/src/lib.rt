@@ -1,6 +1,16 @@
-//! What all parts of calypso name: clients, servers, views, inodes and limits, the list types of its
-//! records, want of memory, and the sources and sinks through which bytes come in and go out.
-//! A source or a sink answers [`Failed`] only where its count of faults rose in that call.
+//! What all parts of calypso name, and the edges through which bytes come in and go out.
+//!
+//! - [`ClientId`], [`ServerId`], [`NodeId`], [`View`], [`Ino`] and [`Sector`] name who takes part and
+//!   where bytes stand; the limits are constants, and stand in specs/Limits.antt for contracts.
+//! - [`Items`] is the list type of records ([`Blob`], [`NameList`], [`EntryList`]), which contracts see
+//!   as a list. [`cut_at`] cuts a text at its first separator.
+//! - A [`Source`] gives bytes and a [`Sink`] takes them, with room made by `Sink::reserve` before. What
+//!   they have left and hold is told or untold. [`Failed`] comes only in a call in which the count of
+//!   faults rose, so that no caller can hide behind a device.
+//! - [`MemSource`] and [`MemSink`] are in memory and never fail; [`FaultSource`] and [`FaultSink`] fail
+//!   exactly in their listed calls; [`StdSource`] and [`StdSink`] are the system's readers and writers,
+//!   and tell no bytes.
+//! - [`Oom`] is want of memory, after which a value is as it was.
 #![tactic(auto)]
 
 mod cut;
@@ -18,8 +28,6 @@ mod sink;
 mod source;
 mod std_sink;
 mod std_source;
-#[cfg(test)]
-mod tests;
 
 pub use cut::cut_at;
 pub use directory_entry::{DirectoryEntry, EntryKind};

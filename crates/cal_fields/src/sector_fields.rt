@@ -1,9 +1,10 @@
 ghost use Rattle.std.specs.Prelude.{◌≡◌, ◌+◌, ◌≤◌, ◌∷◌, [], ◌++◌, ℕ, List, length};
+ghost use Rattle.cal_base.specs.Limits.{block_size};
 ghost use Rattle.cal_fields.specs.BigEndian.{big_endian};
 ghost use Rattle.cal_fields.specs.Padded.{padded, zeros};
 
 use crate::put::{bytes_of_u16, bytes_of_u32, bytes_of_u64};
-use cal_base::Sector;
+use cal_base::{BLOCK_SIZE, Sector};
 use std::marker::Model;
 
 /// A sector that is filled from its first byte on. The bytes behind those filled are zero.
@@ -36,7 +37,7 @@ impl SectorFields {
 
     /// Fills the next bytes.
     pub fn put_bytes(&mut self, bytes: &[u8])
-        requires { length self.old + length bytes.now ≤ 4096 }
+        requires { length self.old + length bytes.now ≤ block_size }
         ensures fields { self.new ≡ self.old ++ bytes.now }
         ensures length { length self.new ≡ length self.old + length bytes.now }
     {
@@ -46,7 +47,7 @@ impl SectorFields {
 
     /// Fills one byte.
     pub fn put_u8(&mut self, number: u8)
-        requires { length self.old + 1 ≤ 4096 }
+        requires { length self.old + 1 ≤ block_size }
         ensures fields { self.new ≡ self.old ++ number ∷ [] }
         ensures length { length self.new ≡ length self.old + 1 }
     {
@@ -55,7 +56,7 @@ impl SectorFields {
 
     /// Fills two bytes with a number.
     pub fn put_u16(&mut self, number: u16)
-        requires { length self.old + 2 ≤ 4096 }
+        requires { length self.old + 2 ≤ block_size }
         ensures fields { self.new ≡ self.old ++ big_endian 2 number }
         ensures length { length self.new ≡ length self.old + 2 }
     {
@@ -64,7 +65,7 @@ impl SectorFields {
 
     /// Fills four bytes with a number.
     pub fn put_u32(&mut self, number: u32)
-        requires { length self.old + 4 ≤ 4096 }
+        requires { length self.old + 4 ≤ block_size }
         ensures fields { self.new ≡ self.old ++ big_endian 4 number }
         ensures length { length self.new ≡ length self.old + 4 }
     {
@@ -73,7 +74,7 @@ impl SectorFields {
 
     /// Fills eight bytes with a number.
     pub fn put_u64(&mut self, number: u64)
-        requires { length self.old + 8 ≤ 4096 }
+        requires { length self.old + 8 ≤ block_size }
         ensures fields { self.new ≡ self.old ++ big_endian 8 number }
         ensures length { length self.new ≡ length self.old + 8 }
     {
@@ -82,7 +83,7 @@ impl SectorFields {
 
     /// Leaves the next bytes zero.
     pub fn put_zeros(&mut self, count: usize)
-        requires { length self.old + count ≤ 4096 }
+        requires { length self.old + count ≤ block_size }
         ensures fields { self.new ≡ self.old ++ zeros count }
         ensures length { length self.new ≡ length self.old + count }
     {
@@ -91,7 +92,7 @@ impl SectorFields {
 
     /// Writes the sector: the bytes filled, and zeros behind them.
     pub fn finish(self, into: &mut Sector)
-        ensures { into.new ≡ padded 4096 self }
+        ensures { into.new ≡ padded block_size self }
     {
         let bytes = self.bytes;
         *into = bytes;
@@ -100,16 +101,16 @@ impl SectorFields {
 
 /// A sector of zeros.
 fn zero_sector() -> Sector
-    ensures { result ≡ padded 4096 [] }
+    ensures { result ≡ padded block_size [] }
 {
-    [0; 4096]
+    [0; BLOCK_SIZE]
 }
 
 /// Copies bytes to a place of the sector, behind which zeros stand.
 fn fill(sector: &mut Sector, at: usize, bytes: &[u8])
-    requires { at + length bytes.now ≤ 4096 }
-    ensures { (front : List ℕ) → length front ≡ at → sector.old ≡ padded 4096 front
-        → sector.new ≡ padded 4096 (front ++ bytes.now) }
+    requires { at + length bytes.now ≤ block_size }
+    ensures { (front : List ℕ) → length front ≡ at → sector.old ≡ padded block_size front
+        → sector.new ≡ padded block_size (front ++ bytes.now) }
 {
     sector[at..at + bytes.len()].copy_from_slice(bytes);
 }

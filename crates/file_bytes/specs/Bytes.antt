@@ -1,4 +1,5 @@
 use Rattle.std.specs.Prelude.{◌+◌, ◌-◌, ◌*◌, ℕ, List, ◌++◌, length, take, drop, replicate}
+use Rattle.cal_base.specs.Limits.{block_size}
 
 -- contents that are cut off at a size, or grown to it by zeros
 abbrev pub resized : List ℕ → ℕ → List ℕ
@@ -22,4 +23,4 @@ read_at contents offset count = take count (drop offset contents)
 
 -- a block of a file, with zeros past the end of the file
 abbrev pub block_at : List ℕ → ℕ → List ℕ
-block_at contents index = resized (drop (index * 4096) contents) 4096
+block_at contents index = resized (drop (index * block_size) contents) block_size

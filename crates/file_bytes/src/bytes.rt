@@ -1,4 +1,5 @@
 ghost use Rattle.std.specs.Prelude.{◌≡◌, ◌≤◌, ◌+◌, IfOk, OnOk, OnErr, length, take, drop};
+ghost use Rattle.cal_base.specs.Limits.{block_size, file_blocks, file_size};
 ghost use Rattle.file_bytes.specs.Bytes.{block_at, grown, overlaid, read_at, resized, written};
 
 use cal_base::{BLOCK_SIZE, Blob, Oom, Sector};
@@ -17,7 +18,7 @@ pub fn resize(contents: &mut Vec<u8>, size: usize) -> Result<(), Oom>
 /// Writes bytes at an offset, up to the limit of a file; a gap before it becomes zeros, as with POSIX.1's
 /// `pwrite`. After want of memory the contents are as they were.
 pub fn write(contents: &mut Vec<u8>, offset: usize, bytes: &[u8]) -> Result<(), Oom>
-    requires { offset + length bytes.now ≤ 262144 }
+    requires { offset + length bytes.now ≤ file_size }
     ensures ok { OnOk result (contents.new.items ≡ written contents.old.items offset bytes.now) }
     ensures err { OnErr result (contents.new.items ≡ contents.old.items) }
 {
@@ -63,7 +64,7 @@ pub fn copy(alloc: Global, bytes: &[u8]) -> Result<Blob, Oom>
 
 /// A block of 4,096 bytes of the contents, with zeros past their end.
 pub fn block(contents: &[u8], index: usize) -> Sector
-    requires { index ≤ 64 }
+    requires { index ≤ file_blocks }
     ensures { result ≡ block_at contents.now index }
 {
     padded(first(from(contents, index * BLOCK_SIZE), BLOCK_SIZE))
@@ -71,8 +72,8 @@ pub fn block(contents: &[u8], index: usize) -> Sector
 
 /// At most 4,096 bytes, and zeros behind them.
 fn padded(bytes: &[u8]) -> Sector
-    requires { length bytes.now ≤ 4096 }
-    ensures { result ≡ resized bytes.now 4096 }
+    requires { length bytes.now ≤ block_size }
+    ensures { result ≡ resized bytes.now block_size }
 {
     let mut sector = [0; BLOCK_SIZE];
     overlay(&mut sector, 0, bytes);

@@ -2,23 +2,26 @@ ghost use Rattle.std.specs.Prelude.{◌≡◌, ◌<◌, ◌↔◌, IsTrue, IfOk,
 ghost use Rattle.std.specs.Option.{option_map};
 ghost use Rattle.token_table.specs.Table.{IsGrantable};
 ghost use Rattle.token_table.specs.Series.{Same, with_lowered};
-ghost use Rattle.rebuild.specs.Collecting.{begun, standing_of, is_asked, first_to_ask, next_of, asking, missing_of, is_missing, client};
-ghost use Rattle.rebuild.specs.Reports.{judged, Fits, after_piece, Takes, Releases, Purges};
+ghost use Rattle.token_table.specs.Table.{IsToken};
+ghost use Rattle.token_table.specs.Series.{with_holds};
+ghost use Rattle.rebuild.specs.Collecting.{none_listed, standing_of, is_asked, is_to_ask, first_to_ask, listing, next_of, asking, missing_of, is_missing, client, phase_by, phase_of};
+ghost use Rattle.rebuild.specs.Reports.{judged, IsReported, Fits, after_piece, Takes, Releases, Lowers, Grants, Purges};
 ghost use Rattle.rebuild.specs.declared.standing.Standing.TheVariants.{Asked};
 
 use crate::judged::{judged, judged_all};
+use crate::phase::Phase;
 use crate::standing::Standing;
 use cal_base::{CLIENTS, ClientId, INODES, Ino, Oom};
 use request_log::Slot;
 use std::alloc::Global;
 use std::marker::Model;
-use token_kind::{Class, Hold, Piece, Release, Reported};
+use token_kind::{Class, Hold, Piece, Release, Reported, Token};
 use token_table::TokenTable;
 
-/// What a server has collected of the reports of clients, and whom it has asked.
+/// What a server has collected of the reports of clients, whom it has asked, and what clients hold since.
 #[derive(Drop)]
 pub struct Collect {
-    listed: Vec<ClientId>,
+    alloc: Global,
     window: u8,
     standings: [Standing; 16],
     table: TokenTable,
@@ -29,29 +32,40 @@ impl Model for Collect {
 
     ghost Value = { Collecting };
 
-    ghost view = { λ s. record { listed = s.listed.items; window = s.window; standings = s.standings; table = s.table } };
+    ghost view = { λ s. record { window = s.window; standings = s.standings; table = s.table } };
 }
 
 impl Collect {
-    /// Collecting from the listed clients, in their order, of which as many as the window are asked at a
+    /// Collecting from nobody yet, with room for all clients: as many as the window will be asked at a
     /// time, 1 to 8.
-    pub fn new(alloc: Global, listed: &[ClientId], window: u8) -> Result<Collect, Oom>
-        ensures { IfOk result (λ s. s ≡ record { listed = listed.now; window = window; standings = begun listed.now; table = record { holds = []; writes = [] } }) }
+    pub fn new(alloc: Global, window: u8) -> Result<Collect, Oom>
+        ensures { IfOk result (λ s. s ≡ record { window = window; standings = none_listed; table = record { holds = []; writes = [] } }) }
     {
         Ok(Collect {
-            listed: Vec::from_slice(alloc, listed)?,
+            alloc,
             window,
-            standings: begun(listed),
+            standings: [Standing::Unlisted; 16],
             table: TokenTable::new(alloc)?,
         })
     }
 
-    /// The client to be asked now, which then counts as asked: the first listed one that was not asked,
+    /// Lists a client: it is to be asked, and is missing until its report is whole. One that was listed
+    /// before stands as it did. It takes no memory.
+    pub fn list(&mut self, c: ClientId)
+        ensures { self.new ≡ listing self.old c }
+    {
+        if self.standing(c).is_unlisted() {
+            set(&mut self.standings, c, Standing::Listed);
+        }
+    }
+
+    /// The client to be asked now, which then counts as asked: the least listed one that was not asked,
     /// or none where as many as the window are asked and not whole, or all listed ones that aren't
     /// purged were asked.
     pub fn next_to_ask(&mut self) -> Option<ClientId>
         ensures next { result ≡ next_of self.old }
         ensures asked { self.new ≡ asking self.old result }
+        ensures bound { IfSome result (λ c. c.0 < CLIENTS) }
     {
         let next = self.next();
         if let Some(c) = next {
@@ -76,11 +90,12 @@ impl Collect {
         requires client { c.0 < CLIENTS }
         requires fits { Fits self.old c p.now slot.now.flush }
         requires inodes { All (λ r. r.token.ino.0 < INODES) p.now.holds }
+        requires modes { All IsReported p.now.holds }
         ensures whole { IfOk result (λ whole. whole ≡ p.now.last) }
         ensures ok { OnOk result (Takes self.old self.new c p.now slot.now.flush) }
         ensures err { OnErr result (self.new ≡ self.old) }
     {
-        let tokens = judged_all(*self.listed.allocator(), p.holds.as_slice(), slot.flush)?;
+        let tokens = judged_all(self.alloc, p.holds.as_slice(), slot.flush)?;
         self.table.grant_all(c, tokens.as_slice())?;
         set(&mut self.standings, c, after_piece(p));
         Ok(p.last)
@@ -101,17 +116,55 @@ impl Collect {
         set(&mut self.standings, c, Standing::Purged);
     }
 
-    /// The least client that is listed, not purged and not whole, if there is one. It takes no memory.
-    pub fn missing(&self) -> Option<ClientId>
-        ensures { result ≡ missing_of self.now }
+    /// Lowers one hold of a client to the lesser of what it is and `to`, as its flush or its release says.
+    pub fn lower(&mut self, c: ClientId, ino: Ino, class: Class, to: Hold)
+        ensures { Lowers self.old self.new c ino class to }
     {
-        let standings = self.standings;
-        missing(&standings)
+        self.table.lower(c, ino, class, to);
     }
 
-    /// The table of what was reported, each flush judged, less what was released and purged; Data Write
-    /// holds stand in the order in which the reports became whole, and within a report in its order. No
-    /// client is missing.
+    /// Grants what the client needs, one token after the other. No other client may have a hold that
+    /// conflicts with one of them. The Data Write holds that the client has keep their places in the order
+    /// of writes. After want of memory all is as it was.
+    pub fn grant(&mut self, c: ClientId, tokens: &[Token]) -> Result<(), Oom>
+        requires apart { All (IsGrantable self.old.table c) tokens.now }
+        requires client { c.0 < CLIENTS }
+        requires inodes { All (λ token. token.ino.0 < INODES) tokens.now }
+        requires modes { All IsToken tokens.now }
+        ensures ok { OnOk result (Grants self.old self.new c tokens.now) }
+        ensures err { OnErr result (self.new ≡ self.old) }
+    {
+        self.table.grant_needs(c, tokens)?;
+        Ok(())
+    }
+
+    /// The client that is missing, if there is one: the least that is listed, not purged and not whole. A
+    /// request waits for it, exactly while the server collects. It takes no memory.
+    pub fn missing(&self) -> Option<ClientId>
+        ensures missing { result ≡ missing_of self.now }
+        ensures bound { IfSome result (λ c. c.0 < CLIENTS) }
+        ensures phase { phase_of self.now ≡ phase_by result }
+    {
+        first(first_missing(&self.standings))
+    }
+
+    /// Where the server stands: it collects while a client is missing, and is admitted where none is.
+    pub fn phase(&self) -> Phase
+        ensures { result ≡ phase_of self.now }
+    {
+        phase_by(self.missing())
+    }
+
+    /// The table of what clients hold. While the server collects: what was reported so far, each flush
+    /// judged, less what was lowered and purged; Data Write holds stand in the order in which the reports
+    /// became whole, and within a report in its order.
+    pub fn table(&self) -> &TokenTable
+        ensures { result.now ≡ self.now.table }
+    {
+        &self.table
+    }
+
+    /// The table alone, once no client is missing.
     pub fn finish(self) -> TokenTable
         requires { missing_of self ≡ None }
         ensures { result ≡ self.table }
@@ -120,9 +173,10 @@ impl Collect {
         table
     }
 
-    /// Where a client stands.
+    /// Where a client stands, while the server collects and after.
     pub fn standing(&self, c: ClientId) -> Standing
-        ensures { result ≡ standing_of self.now c }
+        ensures standing { result ≡ standing_of self.now c }
+        ensures all { length self.now.standings ≡ CLIENTS }
     {
         match self.standings.get(c.0 as usize) {
             Some(standing) => *standing,
@@ -131,7 +185,8 @@ impl Collect {
     }
 
     fn next(&self) -> Option<ClientId>
-        ensures { result ≡ next_of self.now }
+        ensures next { result ≡ next_of self.now }
+        ensures bound { IfSome result (λ c. c.0 < CLIENTS) }
     {
         if self.asked() < self.window as usize {
             self.first_to_ask()
@@ -150,12 +205,10 @@ impl Collect {
     }
 
     fn first_to_ask(&self) -> Option<ClientId>
-        ensures { result ≡ first_to_ask self.now }
+        ensures first { result ≡ first_to_ask self.now }
+        ensures bound { IfSome result (λ c. c.0 < CLIENTS) }
     {
-        self.listed
-            .iter()
-            .copied()
-            .find(|c| self.standing(*c).is_to_ask())
+        first(first_unasked(&self.standings))
     }
 
     /// Whether the client was asked and this piece of its report comes next.
@@ -177,17 +230,6 @@ impl Collect {
     }
 }
 
-/// Where clients stand as collecting begins.
-fn begun(listed: &[ClientId]) -> [Standing; 16]
-    ensures { result ≡ begun listed.now }
-{
-    let mut standings = [Standing::Unlisted; 16];
-    for c in listed {
-        set(&mut standings, *c, Standing::Listed);
-    }
-    standings
-}
-
 /// Puts a client elsewhere.
 fn set(standings: &mut [Standing; 16], c: ClientId, standing: Standing)
     ensures { standings.new ≡ slice_set standings.old c.0 standing }
@@ -197,11 +239,13 @@ fn set(standings: &mut [Standing; 16], c: ClientId, standing: Standing)
     }
 }
 
-/// The least client that is listed, not purged and not whole.
-fn missing(standings: &[Standing; 16]) -> Option<ClientId>
-    ensures { result ≡ option_map client (position is_missing standings.now) }
+/// The client with a number, if there is one.
+fn first(number: Option<usize>) -> Option<ClientId>
+    requires { IfSome number (λ number. number < CLIENTS) }
+    ensures client { result ≡ option_map client number }
+    ensures bound { IfSome result (λ c. c.0 < CLIENTS) }
 {
-    match first_missing(standings) {
+    match number {
         Some(number) => Some(ClientId(number as u8)),
         None => None,
     }
@@ -212,6 +256,23 @@ fn first_missing(standings: &[Standing]) -> Option<usize>
     ensures bound { IfSome result (λ number. number < length standings.now) }
 {
     standings.iter().position(|standing| standing.is_missing())
+}
+
+fn first_unasked(standings: &[Standing]) -> Option<usize>
+    ensures first { result ≡ position is_to_ask standings.now }
+    ensures bound { IfSome result (λ number. number < length standings.now) }
+{
+    standings.iter().position(|standing| standing.is_to_ask())
+}
+
+/// Where a server stands, by the client that is missing.
+fn phase_by(missing: Option<ClientId>) -> Phase
+    ensures { result ≡ phase_by missing }
+{
+    match missing {
+        None => Phase::Admitted,
+        Some(_) => Phase::Collecting,
+    }
 }
 
 /// Where a client stands once a piece of its report is taken.

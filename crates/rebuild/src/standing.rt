@@ -1,5 +1,5 @@
 ghost use Rattle.std.specs.Prelude.{◌≡◌};
-ghost use Rattle.rebuild.specs.Collecting.{is_to_ask, is_asked, is_missing};
+ghost use Rattle.rebuild.specs.Collecting.{is_unlisted, is_to_ask, is_asked, is_missing};
 
 /// Where a collecting server stands with a client.
 #[derive(Clone, Copy, Debug, PartialEq, Eq)]
@@ -17,6 +17,16 @@ pub enum Standing {
 }
 
 impl Standing {
+    /// Whether it isn't listed.
+    pub fn is_unlisted(self) -> bool
+        ensures { result ≡ is_unlisted self }
+    {
+        match self {
+            Standing::Unlisted => true,
+            Standing::Listed | Standing::Asked(_) | Standing::Whole | Standing::Purged => false,
+        }
+    }
+
     /// Whether it is listed and not yet asked.
     pub fn is_to_ask(self) -> bool
         ensures { result ≡ is_to_ask self }

@@ -1,6 +1,7 @@
-use Rattle.std.specs.Prelude.{◌≡◌, ◌==◌, ◌||◌, ◌≤◌, ◌+◌, ◌-◌, ◌^◌, ◌++◌, ◌∷◌, [], ℕ, Bool, List, Option, Some, None, nat_lt, if◌then◌else◌, length, min, take, drop}
+use Rattle.std.specs.Prelude.{◌≡◌, ◌==◌, ◌||◌, ◌&&◌, nat_eq, ◌≤◌, ◌+◌, ◌-◌, ◌^◌, ◌++◌, ◌∷◌, [], ℕ, Bool, List, Option, Some, None, nat_lt, if◌then◌else◌, length, min, take, drop}
 use Rattle.cal_base.specs.declared.identity.NodeId.{NodeId}
 use Rattle.cal_base.specs.declared.identity.View.{View}
+use Rattle.cal_base.specs.contracts.identity.NodeIdPartialEq.TheImpl as node_eq
 use Rattle.session.specs.declared.packet.Packet.{Packet}
 
 -- One end of a session: the messages of its own that the peer has acknowledged, the messages of the
@@ -58,11 +59,19 @@ oldest_packet s (body ∷ bodies) = Some (packet_of s s.taken (s.acknowledged + 
 abbrev pub tick_packet : SessionState → Option Packet
 tick_packet s = oldest_packet s s.bodies
 
--- a packet belongs to this session
+-- two nodes are one
+abbrev pub same_node : NodeId → NodeId → Bool
+same_node = (node_eq.ghosts).eq
+
+-- a packet belongs to this session: it is from the peer, for this end, and of the view
 pub record IsOfSession (s : SessionState) (p : Packet) : Type 0 where
   pub from : p.from ≡ s.peer
   pub to : p.to ≡ s.me
   pub view : p.view ≡ s.view
+
+-- the same as a test
+abbrev pub is_of_session : SessionState → Packet → Bool
+is_of_session s p = same_node p.from s.peer && same_node p.to s.me && nat_eq p.view.0 s.view.0
 
 -- its message is the next one
 abbrev pub is_next : SessionState → Packet → Bool
@@ -90,8 +99,20 @@ after_packet s p = record s {
   steps = if is_next s p || nat_lt 0 (newly_acknowledged s p) then s.steps + 1 else s.steps;
 }
 
+-- the body that a packet brings: none where it is of another session or not the next one
+abbrev pub body_of : SessionState → Packet → Option (List ℕ)
+body_of s p = if is_of_session s p then taken_body s p else None
+
+-- the packets that a packet lets out of the queue: none where it is of another session
+abbrev pub let_out : SessionState → Packet → List Packet
+let_out s p = if is_of_session s p then opened_packets s p else []
+
+-- a session once a packet has come: one of another session changes nothing
+abbrev pub heard : SessionState → Packet → SessionState
+heard s p = if is_of_session s p then after_packet s p else s
+
 -- the counts of a session are no more than the calls that changed it, and these are few
 pub record IsCounted (s : SessionState) : Type 0 where
   pub sent : s.acknowledged + length s.bodies ≤ s.steps
   pub taken : s.taken ≤ s.steps
-  pub few : s.steps ≤ 2 ^ 56
+  pub few : s.steps ≤ 2 ^ 60

@@ -1,5 +1,5 @@
 ghost use Rattle.std.specs.Prelude.{◌≡◌, ◌==◌, ◌≤◌, ◌<◌, ◌+◌, ◌-◌, ◌^◌, ◌↔◌, [], Some, None, if◌then◌else◌, min, length, take, drop, IsTrue, IsNone, IfOk, OnOk, OnErr};
-ghost use Rattle.session.specs.Session.{IsCounted, IsOfSession, after_packet, after_send, bare_ack_of, is_next, new_session, newly_acknowledged, numbered, opened_packets, packet_of, packets_from, queued, sent_packet, taken_after, taken_body, tick_packet, unacknowledged};
+ghost use Rattle.session.specs.Session.{IsCounted, IsOfSession, is_of_session, heard, body_of, let_out, after_packet, after_send, bare_ack_of, is_next, new_session, newly_acknowledged, numbered, opened_packets, packet_of, packets_from, queued, sent_packet, taken_after, taken_body, tick_packet, unacknowledged};
 
 use crate::body::Body;
 use crate::packet::{Packet, Taken};
@@ -53,7 +53,7 @@ impl Session {
     /// Sends a message, which has the next number: answers its packet, or `None` where eight are
     /// unacknowledged and it waits. After `Oom` the session is as it was.
     pub fn send(&mut self, body: Vec<u8>) -> Result<Option<Packet>, Oom>
-        requires { self.old.steps < 2 ^ 56 }
+        requires { self.old.steps < 2 ^ 60 }
         ensures packet { IfOk result (λ packet. packet ≡ sent_packet self.old body.items) }
         ensures none { IfOk result (λ packet. IsNone packet ↔ (length (unacknowledged self.old) ≡ 8)) }
         ensures new { OnOk result (self.new ≡ after_send self.old body.items) }
@@ -71,12 +71,10 @@ impl Session {
     /// that was sent, and nothing that is sent later. A packet of another session does nothing.
     /// After `Oom` the session is as it was.
     pub fn on_packet(&mut self, packet: &Packet) -> Result<Taken, Oom>
-        requires { self.old.steps < 2 ^ 56 }
-        ensures new { OnOk result (IsOfSession self.old packet.now → self.new ≡ after_packet self.old packet.now) }
-        ensures body { IfOk result (λ taken. IsOfSession self.old packet.now → taken.body ≡ taken_body self.old packet.now) }
-        ensures opened { IfOk result (λ taken. IsOfSession self.old packet.now → taken.opened ≡ opened_packets self.old packet.now) }
-        ensures other { IfOk result (λ taken. ¬ IsOfSession self.old packet.now
-            → (self.new ≡ self.old) × (taken.body ≡ None) × (taken.opened ≡ [])) }
+        requires { self.old.steps < 2 ^ 60 }
+        ensures new { OnOk result (self.new ≡ heard self.old packet.now) }
+        ensures body { IfOk result (λ taken. taken.body ≡ body_of self.old packet.now) }
+        ensures opened { IfOk result (λ taken. taken.opened ≡ let_out self.old packet.now) }
         ensures err { OnErr result (self.new ≡ self.old) }
     {
         if !self.is_of_session(packet) {
@@ -117,6 +115,36 @@ impl Session {
         self.packet(self.taken, 0, Body::empty())
     }
 
+    /// Whether the packet is of this session: from the peer, for this end, and of the view. No other
+    /// packet is heard.
+    pub fn is_of_session(&self, packet: &Packet) -> bool
+        ensures test { result ≡ is_of_session self.now packet.now }
+        ensures meaning { IsTrue result ↔ IsOfSession self.now packet.now }
+    {
+        packet.from == self.peer && packet.to == self.me && packet.view == self.view
+    }
+
+    /// Whether all that was sent is acknowledged, so that a tick sends nothing. It takes no memory.
+    pub fn is_quiet(&self) -> bool
+        ensures { IsTrue result ↔ (unacknowledged self.now ≡ []) }
+    {
+        self.bodies.is_empty()
+    }
+
+    /// The other end.
+    pub fn peer(&self) -> NodeId
+        ensures { result ≡ self.now.peer }
+    {
+        self.peer
+    }
+
+    /// The view of the session.
+    pub fn view(&self) -> View
+        ensures { result ≡ self.now.view }
+    {
+        self.view
+    }
+
     /// How many calls have changed the session. Neither count of its messages is above it.
     pub fn steps(&self) -> u64
         ensures steps { result ≡ self.now.steps }
@@ -138,15 +166,9 @@ impl Session {
         }
     }
 
-    fn is_of_session(&self, packet: &Packet) -> bool
-        ensures { IsTrue result ↔ IsOfSession self.now packet.now }
-    {
-        packet.from == self.peer && packet.to == self.me && packet.view == self.view
-    }
-
     /// The packet of a message as it is sent first, where fewer than eight are unacknowledged.
     fn first_packet(&self, body: &Body) -> Result<Option<Packet>, Oom>
-        requires { self.now.steps < 2 ^ 56 }
+        requires { self.now.steps < 2 ^ 60 }
         ensures { IfOk result (λ packet. packet ≡ sent_packet self.now body.now) }
     {
         let before = self.bodies.len();
@@ -167,7 +189,7 @@ impl Session {
 
     /// The packets of the first `count` queued messages.
     fn opened(&self, count: usize, taken: u64) -> Result<Items<Packet>, Oom>
-        requires { self.now.steps < 2 ^ 56 }
+        requires { self.now.steps < 2 ^ 60 }
         ensures { IfOk result (λ opened. opened ≡ packets_from self.now taken (numbered self.now + 1) (take count (queued self.now))) }
     {
         let mut opened = Items::new(self.alloc);

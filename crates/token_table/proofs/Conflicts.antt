@@ -1,8 +1,9 @@
 use Rattle.std.proofs.Common.{◌≡◌, true, false, refl}
 use Rattle.token_kind.specs.Hold.{conflict, lesser_of}
+use Rattle.token_kind.specs.declared.«class».Class.{Class}
 use Rattle.token_kind.specs.declared.hold.Hold.{Hold}
 use Rattle.token_kind.specs.declared.hold.Hold.TheVariants.{None as Nothing, Read, Write}
-use Rattle.token_table.specs.Table.{is_held}
+use Rattle.token_table.specs.Table.{is_held, may_hold}
 
 -- none conflicts with nothing
 pub conflict-none : (a : Hold) → conflict a Nothing ≡ false
@@ -39,3 +40,13 @@ pub is_held-lesser_of : (a to : Hold) → is_held (lesser_of a to) ≡ true → 
 is_held-lesser_of Nothing to h = h
 is_held-lesser_of Read to h = refl
 is_held-lesser_of Write to h = refl
+
+-- what a class can be held as it can also be held lower
+pub may_hold-lesser_of : (cls : Class) (a to : Hold) → may_hold cls a ≡ true → may_hold cls (lesser_of a to) ≡ true
+may_hold-lesser_of cls Nothing to h = h
+may_hold-lesser_of cls Read Nothing h = refl
+may_hold-lesser_of cls Read Read h = refl
+may_hold-lesser_of cls Read Write h = refl
+may_hold-lesser_of cls Write Nothing h = refl
+may_hold-lesser_of cls Write Read h = refl
+may_hold-lesser_of cls Write Write h = h

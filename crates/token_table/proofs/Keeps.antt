@@ -7,7 +7,7 @@ use Rattle.token_kind.specs.declared.«class».Class.TheVariants.{Names, Data, A
 use Rattle.token_kind.specs.declared.hold.Hold.{Hold}
 use Rattle.token_kind.specs.declared.hold.Hold.TheVariants.{None as Nothing}
 use Rattle.token_table.specs.declared.hold_key.HoldKey.{HoldKey}
-use Rattle.token_table.specs.Table.{Table, IsTable, key_of, same_key, same_client, same_write, hold_at, held_of, is_data_write, is_held}
+use Rattle.token_table.specs.Table.{Table, IsTable, key_of, same_key, same_client, same_write, hold_at, held_of, is_data_write, is_held, may_hold}
 use Rattle.token_table.specs.Changes.{Sets, Drops, reordered}
 use Rattle.token_table.proofs.Conflicts.{conflict-none, conflict-comm}
 use Rattle.token_table.proofs.Keys.{same_key-true, same_key-refl, same_client-refl, same_client-false, same_write-true, same_write-false}
@@ -15,7 +15,7 @@ use Rattle.token_table.proofs.Writes.{count_by-reordered_other, count_by-reorder
 
 module _ (old new : Table) (c : ClientId) (ino : Ino) (cls : Class) (hold : Hold) (kept : IsTable old) (sets : Sets old new c ino cls hold)
     (agrees : (d : ClientId) → same_client c d ≡ false → conflict hold (held_of old d ino cls) ≡ false)
-    (inside : is_held hold ≡ true → (c.0 < 16) × (ino.0 < 512)) where
+    (inside : is_held hold ≡ true → (c.0 < 16) × (ino.0 < 512)) (mode : may_hold cls hold ≡ true) where
   -- the hold that was set, beside that of another client
   beside : (k : HoldKey) → key_of c ino cls ≡ k → (e : ClientId) → same_client k.client e ≡ false → conflict hold (hold_at old.holds (key_of e k.ino k.«class»)) ≡ false
   beside k p = subst (λ (k : HoldKey). (e : ClientId) → same_client k.client e ≡ false → conflict hold (hold_at old.holds (key_of e k.ino k.«class»)) ≡ false) p agrees
@@ -91,9 +91,19 @@ module _ (old new : Table) (c : ClientId) (ino : Ino) (cls : Class) (hold : Hold
           (inside (ap (λ (b : Bool). is_held (if b then hold else held_of old d jno other)) (sym p) ∙ h))
       by false p h = kept.within d jno other (ap (λ (b : Bool). is_held (if b then hold else held_of old d jno other)) (sym p) ∙ h)
 
+  modes : (d : ClientId) (jno : Ino) (other : Class) → may_hold other (held_of new d jno other) ≡ true
+  modes d jno other = rw (sets.holds (key_of d jno other)) (by (same_key key (key_of d jno other)) refl)
+    where
+      key : HoldKey
+      key = key_of c ino cls
+
+      by : (b : Bool) → same_key key (key_of d jno other) ≡ b → may_hold other (if b then hold else held_of old d jno other) ≡ true
+      by true p = subst (λ (k : HoldKey). may_hold k.«class» hold ≡ true) (same_key-true key (key_of d jno other) p) mode
+      by false p = kept.modes d jno other
+
   -- where a hold is set that conflicts with no other client's, the rule of the table is kept
   pub sets_keeps : IsTable new
-  sets_keeps = record { apart = clients_apart; listed = listed; within = within }
+  sets_keeps = record { apart = clients_apart; listed = listed; within = within; modes = modes }
 
 module _ (old new : Table) (c : ClientId) (kept : IsTable old) (drops : Drops old new c) where
   others_apart : (d e : ClientId) (ino : Ino) (cls : Class) → same_client d e ≡ false → conflict (held_of new d ino cls) (held_of new e ino cls) ≡ false
@@ -118,6 +128,13 @@ module _ (old new : Table) (c : ClientId) (kept : IsTable old) (drops : Drops ol
       by true h = absurd (true≢false (sym h))
       by false h = kept.within d ino cls h
 
+  others_modes : (d : ClientId) (ino : Ino) (cls : Class) → may_hold cls (held_of new d ino cls) ≡ true
+  others_modes d ino cls = rw (drops.holds d ino cls) (by (same_client c d))
+    where
+      by : (a : Bool) → may_hold cls (if a then Nothing else held_of old d ino cls) ≡ true
+      by true = refl
+      by false = kept.modes d ino cls
+
   -- where a client is dropped, the rule of the table is kept
   pub drops_keeps : IsTable new
-  drops_keeps = record { apart = others_apart; listed = others_listed; within = others_within }
+  drops_keeps = record { apart = others_apart; listed = others_listed; within = others_within; modes = others_modes }

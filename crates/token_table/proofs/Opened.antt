@@ -1,8 +1,8 @@
-use Rattle.std.proofs.Common.{◌≡◌, ◌++◌, List, [], ◌∷◌, Bool, true, false, Option, Some, None, cond, unwrap_or, if◌then◌else◌, refl, sym, ap, subst, ◌∙◌, true≢false, append-nil, arith}
+use Rattle.std.proofs.Common.{ℕ, ◌<◌, IsTrue, ◌↔◌, rules, ◌≡◌, ◌++◌, List, [], ◌∷◌, Bool, true, false, Option, Some, None, cond, unwrap_or, if◌then◌else◌, refl, sym, ap, subst, ◌∙◌, true≢false, append-nil, arith}
 use Rattle.std.specs.List.{filter_map, cons_option, All, Contains}
 use Rattle.std.specs.Map.{lookup}
 use Rattle.std.specs.Option.{option_to_list}
-use Rattle.std.proofs.lemmas.List.Elements.{All-push, Contains-get_or, Contains-append_right}
+use Rattle.std.proofs.lemmas.List.Elements.{All-push, All-contains, Contains-get_or, Contains-append_right}
 use Rattle.cal_base.specs.declared.identity.ClientId.{ClientId}
 use Rattle.cal_base.specs.declared.identity.Ino.{Ino}
 use Rattle.token_kind.specs.declared.«class».Class.{Class}
@@ -10,8 +10,8 @@ use Rattle.token_kind.specs.declared.«class».Class.TheVariants.{Names, Data, A
 use Rattle.token_kind.specs.declared.hold.Hold.{Hold}
 use Rattle.token_kind.specs.declared.hold.Hold.TheVariants.{None as Nothing}
 use Rattle.token_table.specs.declared.hold_key.HoldKey.{HoldKey}
-use Rattle.token_table.specs.Blockers.{IsOpened, opened_by}
-use Rattle.token_table.specs.Table.{Table, is_held, key_of, same_key, hold_at}
+use Rattle.token_table.specs.Blockers.{IsOpened, opened_by, has_open}
+use Rattle.token_table.specs.Table.{Table, IsTable, is_held, key_of, same_key, hold_at, held_of}
 use Rattle.token_table.proofs.Keys.{same_key-true}
 
 module _ (t : Table) where
@@ -57,3 +57,14 @@ gathered c ino (e ∷ es) h = by (same_key key e.0) refl (gathered c ino es)
         subst (λ (o : Option Ino). Contains (cons_option o rest) ino) (sym here) (Contains-get_or (ino ∷ rest) 0 ino (omega arith))
     by false p ih =
         behind (opened_by e) (ih (sym (ap (λ (b : Bool). is_held (unwrap_or (cond b (Some e.1) (lookup (same_key key) es)) Nothing)) p) ∙ h))
+
+-- where no client of the cluster has a file open, it is not opened
+pub none_opened : (t : Table) → IsTable t → (ino : Ino) (b : Bool) → (b ≡ false → (k : ℕ) → k < 16 → has_open t ino (record { 0 = k }) ≡ false) → IsOpened t ino → IsTrue b
+none_opened t table ino true none opened = search rules
+none_opened t table ino false none opened =
+    let inside = table.within opened.0 ino Open opened.1 in absurd (true≢false (sym opened.1 ∙ none refl opened.0.0 inside.0))
+
+-- what is gathered are exactly the opened inodes
+pub are_opened : (t : Table) (inos : List Ino) → All (IsOpened t) inos → ((c : ClientId) (ino : Ino) → is_held (held_of t c ino Open) ≡ true → Contains inos ino)
+    → (ino : Ino) → Contains inos ino ↔ IsOpened t ino
+are_opened t inos sound complete ino = ((λ here. All-contains (IsOpened t) inos ino sound here), (λ opened. complete opened.0 ino opened.1))

@@ -1,20 +1,16 @@
-use Rattle.std.proofs.Common.{◌≡◌, ◌<◌, ℕ, List, [], ◌∷◌, ◌++◌, Bool, true, false, not, cond, filter, count_by, unwrap_or, Some, if◌then◌else◌, refl, sym, ap, subst, ◌∙◌, true≢false, ◌+◌, add-zero, zero-add, length, take, get_or}
+use Rattle.std.proofs.Common.{◌≡◌, ◌<◌, ℕ, List, [], ◌∷◌, Bool, true, false, not, filter, count_by, if◌then◌else◌, refl, sym, ap, subst, ◌∙◌, true≢false, ◌+◌, add-zero, zero-add, length, take, get_or}
 use Rattle.std.specs.List.{All}
-use Rattle.std.specs.Map.{lookup}
 use Rattle.std.proofs.lemmas.List.Elements.{All-head, All-tail}
 use Rattle.std.proofs.lemmas.List.Sums.{sum_by-append, fold_more}
 use Rattle.cal_base.specs.declared.identity.ClientId.{ClientId}
 use Rattle.cal_base.specs.declared.identity.Ino.{Ino}
-use Rattle.token_kind.specs.Hold.{conflict}
-use Rattle.token_kind.specs.declared.«class».Class.{Class}
 use Rattle.token_kind.specs.declared.«class».Class.TheVariants.{Data}
 use Rattle.token_kind.specs.declared.hold.Hold.{Hold}
-use Rattle.token_kind.specs.declared.hold.Hold.TheVariants.{None as Nothing}
 use Rattle.token_kind.specs.declared.token.Token.{Token}
 use Rattle.token_table.specs.Changes.{Sets, reordered}
 use Rattle.token_table.specs.Series.{with_hold, with_holds, put_last, Same}
 use Rattle.token_table.specs.declared.hold_key.HoldKey.{HoldKey}
-use Rattle.token_table.specs.Table.{Table, IsTable, IsGrantable, key_of, same_key, same_client, same_write, hold_at, held_of, is_data_write, is_held}
+use Rattle.token_table.specs.Table.{Table, IsTable, IsGrantable, IsToken, key_of, same_key, same_client, same_write, hold_at, held_of, is_data_write, is_held}
 use Rattle.token_table.proofs.Counts.{count_by-filter_all, count_by-filter_none}
 use Rattle.token_table.proofs.Grants.{grantable_after}
 use Rattle.token_table.proofs.Keeps.{sets_keeps}
@@ -63,6 +59,7 @@ same_keeps u t same table = record {
   apart = λ c d ino cls ne. rw (same.holds (key_of c ino cls), same.holds (key_of d ino cls)) (table.apart c d ino cls ne);
   listed = λ c ino. rw (same.order, same.holds (key_of c ino Data)) (table.listed c ino);
   within = λ c ino cls held. table.within c ino cls (ap is_held (sym (same.holds (key_of c ino cls))) ∙ held);
+  modes = λ c ino cls. rw (same.holds (key_of c ino cls)) (table.modes c ino cls);
 }
 
 -- the writes of a client, and those of others, stand as often as before
@@ -79,7 +76,7 @@ count_by-of_client c d ino ws = by (same_client c d) refl
 
 -- a client's writes put last keep the rule of the table
 pub put_last_keeps : (t : Table) (c : ClientId) → IsTable t → IsTable (put_last t c)
-put_last_keeps t c table = record { apart = table.apart; listed = listed; within = table.within }
+put_last_keeps t c table = record { apart = table.apart; listed = listed; within = table.within; modes = table.modes }
   where
     both : (b : Bool) (n : ℕ) → (if b then 0 else n) + (if b then n else 0) ≡ n
     both true n = zero-add n
@@ -92,14 +89,14 @@ put_last_keeps t c table = record { apart = table.apart; listed = listed; within
         ∙ both (same_client c d) (count_by (same_write (d, ino)) t.writes) ∙ table.listed d ino
 
 -- holds that conflict with none of another client keep the rule of the table
-pub with_holds_keeps : (t : Table) (c : ClientId) (tokens : List Token) → IsTable t → All (IsGrantable t c) tokens → c.0 < 16 → All (λ (token : Token). token.ino.0 < 512) tokens → IsTable (with_holds t c tokens)
-with_holds_keeps t c [] table apart member inside = table
-with_holds_keeps t c (token ∷ tokens) table apart member inside =
+pub with_holds_keeps : (t : Table) (c : ClientId) (tokens : List Token) → IsTable t → All (IsGrantable t c) tokens → c.0 < 16 → All (λ (token : Token). token.ino.0 < 512) tokens → All IsToken tokens → IsTable (with_holds t c tokens)
+with_holds_keeps t c [] table apart member inside modes = table
+with_holds_keeps t c (token ∷ tokens) table apart member inside modes =
     let sets = sets_hold t c token in
     with_holds_keeps (with_hold t c token) c tokens
-    (sets_keeps t (with_hold t c token) c token.ino token.«class» token.hold table sets (All-head (IsGrantable t c) token tokens apart) (λ held. (member, All-head (λ (token : Token). token.ino.0 < 512) token tokens inside)))
+    (sets_keeps t (with_hold t c token) c token.ino token.«class» token.hold table sets (All-head (IsGrantable t c) token tokens apart) (λ held. (member, All-head (λ (token : Token). token.ino.0 < 512) token tokens inside)) (All-head IsToken token tokens modes))
     (λ k d lt. grantable_after t (with_hold t c token) c token.ino token.«class» token.hold _ sets (All-tail (IsGrantable t c) token tokens apart k d lt))
-    member (All-tail (λ (token : Token). token.ino.0 < 512) token tokens inside)
+    member (All-tail (λ (token : Token). token.ino.0 < 512) token tokens inside) (All-tail IsToken token tokens modes)
 
 -- the same table, once one more of the holds is set
 pub sets_next : (u v base : Table) (c : ClientId) (tokens : List Token) (i : ℕ) (d : Token) → i < length tokens → Same u (with_holds base c (take i tokens))

@@ -60,6 +60,10 @@ touchers_of t touches = flat_map (λ touch. filter_map (toucher_of t touch) (cli
 abbrev pub IsOpened : Table → Ino → Type 0
 IsOpened t ino = (c : ClientId) × (is_held (held_of t c ino Open) ≡ true)
 
+-- a client has the file open
+abbrev pub has_open : Table → Ino → ClientId → Bool
+has_open t ino c = is_held (held_of t c ino Open)
+
 -- the inode of an entry that is an Open hold
 abbrev pub opened_by : HoldKey × Hold → Option Ino
 opened_by e = if is_open e.0.«class» && is_held e.1 then Some e.0.ino else None

@@ -3,7 +3,7 @@ ghost use Rattle.std.specs.Map.{lookup};
 ghost use Rattle.token_kind.specs.Hold.{lesser_of};
 ghost use Rattle.token_kind.specs.declared.hold.Hold.TheVariants.{None as Nothing};
 ghost use Rattle.token_table.specs.Table.{held_of, hold_at, is_held, is_data_write, same_key, same_client, same_write};
-ghost use Rattle.token_table.specs.Blockers.{IsOpened, opened_by, blocks};
+ghost use Rattle.token_table.specs.Blockers.{IsOpened, opened_by, blocks, has_open};
 ghost use Rattle.token_kind.specs.declared.«class».Class.TheVariants.{Open};
 ghost use Rattle.cal_base.specs.declared.identity.ClientId.{ClientId};
 ghost use Rattle.cal_base.specs.declared.identity.Ino.{Ino};
@@ -77,9 +77,11 @@ impl HoldMap {
         c != holder && conflicts(need.hold, self.held(holder, need.ino, need.class))
     }
 
-    /// The allocator of the map.
-    pub fn allocator(&self) -> Global {
-        *self.holds.allocator()
+    /// An empty list, in the memory of the map.
+    pub fn list<T: Drop>(&self) -> Items<T>
+        ensures { result ≡ [] }
+    {
+        Items::new(*self.holds.allocator())
     }
 
     /// The Data Write hold that became Write first.
@@ -96,12 +98,31 @@ impl HoldMap {
         self.writes.len()
     }
 
+    /// Whether one of the cluster's clients has the file open.
+    pub fn is_opened(&self, ino: Ino) -> bool
+        ensures yes { IsTrue result → IsOpened self.now ino }
+        ensures no { result ≡ false → (k : ℕ) → k < 16 → has_open self.now ino (record { 0 = k }) ≡ false }
+    {
+        for number in 0..CLIENTS {
+            if self.has_open(ino, ClientId(number)) {
+                return true;
+            }
+        }
+        false
+    }
+
+    fn has_open(&self, ino: Ino, holder: ClientId) -> bool
+        ensures { result ≡ has_open self.now ino holder }
+    {
+        is_held(self.held(holder, ino, Class::Open))
+    }
+
     /// The inodes of files that some client has open.
     pub fn opened(&self) -> Result<Items<Ino>, Oom>
         ensures sound { IfOk result (All (IsOpened self.now)) }
         ensures complete { IfOk result (λ inos. (c : ClientId) (ino : Ino) → is_held (held_of self.now c ino Open) ≡ true → Contains inos ino) }
     {
-        let mut inos = Items::new(self.allocator());
+        let mut inos = self.list();
         for i in 0..self.holds.len() {
             let (key, hold) = self.holds.get_index(i).unwrap();
             put_item(&mut inos, opened_by(*key, *hold))?;
@@ -130,6 +151,18 @@ impl HoldMap {
     {
         self.holds.reserve(tokens.len())?;
         self.writes = put_last(&self.writes, c, tokens.len())?;
+        set_each(&mut self.holds, &mut self.writes, c, tokens);
+        Ok(())
+    }
+
+    /// Sets holds of a client, one after the other; the Data Write holds that it has keep their places in
+    /// the order of writes. After want of memory all is as it was.
+    pub fn set_needs(&mut self, c: ClientId, tokens: &[Token]) -> Result<(), Oom>
+        ensures ok { OnOk result (Same self.new (with_holds self.old c tokens.now)) }
+        ensures err { OnErr result (self.new ≡ self.old) }
+    {
+        self.holds.reserve(tokens.len())?;
+        self.writes.reserve(tokens.len())?;
         set_each(&mut self.holds, &mut self.writes, c, tokens);
         Ok(())
     }

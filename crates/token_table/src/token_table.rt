@@ -5,7 +5,7 @@ ghost use Rattle.token_kind.specs.declared.hold.Hold.TheVariants.{Write};
 ghost use Rattle.token_kind.specs.declared.«class».Class.TheVariants.{Data, Open};
 ghost use Rattle.cal_base.specs.declared.identity.ClientId.{ClientId};
 ghost use Rattle.cal_base.specs.declared.identity.Ino.{Ino};
-ghost use Rattle.token_table.specs.Table.{held_of, IsGrantable, is_held, same_client, IsTable, is_data_write};
+ghost use Rattle.token_table.specs.Table.{held_of, IsGrantable, is_held, same_client, IsTable, IsToken, is_data_write};
 ghost use Rattle.token_table.specs.Changes.{Sets, Drops};
 ghost use Rattle.token_table.specs.Series.{Same, with_holds, put_last};
 ghost use Rattle.token_table.specs.Blockers.{blocker_of, blockers_of, toucher_of, touchers_of, clients_below, asked_for, IsOpened};
@@ -53,7 +53,7 @@ impl TokenTable {
     }
 
     /// Sets the client's hold to that of the token. No other client may have a hold that conflicts with
-    /// it. A hold of Data that becomes Write is then the last granted.
+    /// it, and Names and Open are never Write. A hold of Data that becomes Write is then the last granted.
     ///
     /// # Errors
     /// After want of memory the table is as it was.
@@ -61,6 +61,7 @@ impl TokenTable {
         requires apart { IsGrantable self.old c t }
         requires client { c.0 < CLIENTS }
         requires inode { t.ino.0 < INODES }
+        requires mode { IsToken t }
         ensures ok { OnOk result (Sets self.old self.new c t.ino t.class t.hold) }
         ensures err { OnErr result (self.new ≡ self.old) }
     {
@@ -78,10 +79,29 @@ impl TokenTable {
         requires apart { All (IsGrantable self.old c) tokens.now }
         requires client { c.0 < CLIENTS }
         requires inodes { All (λ token. token.ino.0 < INODES) tokens.now }
+        requires modes { All IsToken tokens.now }
         ensures ok { OnOk result (Same self.new (with_holds (put_last self.old c) c tokens.now)) }
         ensures err { OnErr result (self.new ≡ self.old) }
     {
         self.map.set_all(c, tokens)?;
+        Ok(())
+    }
+
+    /// Grants what the client needs, one token after the other. No other client may have a hold that
+    /// conflicts with one of them. The Data Write holds that the client has keep their places among those
+    /// granted; what becomes one comes last, in the order of the tokens.
+    ///
+    /// # Errors
+    /// After want of memory the table is as it was.
+    pub fn grant_needs(&mut self, c: ClientId, tokens: &[Token]) -> Result<(), Oom>
+        requires apart { All (IsGrantable self.old c) tokens.now }
+        requires client { c.0 < CLIENTS }
+        requires inodes { All (λ token. token.ino.0 < INODES) tokens.now }
+        requires modes { All IsToken tokens.now }
+        ensures ok { OnOk result (Same self.new (with_holds self.old c tokens.now)) }
+        ensures err { OnErr result (self.new ≡ self.old) }
+    {
+        self.map.set_needs(c, tokens)?;
         Ok(())
     }
 
@@ -113,7 +133,7 @@ impl TokenTable {
         ensures blockers { IfOk result (λ blockers. blockers ≡ blockers_of self.now c needs.now) }
         ensures grantable { IfOk result (λ blockers. blockers ≡ [] → All (IsGrantable self.now c) needs.now) }
     {
-        let mut blockers = Items::new(self.map.allocator());
+        let mut blockers = self.map.list();
         for need in needs {
             self.put_blockers(c, *need, &mut blockers)?;
         }
@@ -125,7 +145,7 @@ impl TokenTable {
     pub fn touchers(&self, touches: &[(Ino, Class)]) -> Result<BlockerList, Oom>
         ensures { IfOk result (λ blockers. blockers ≡ touchers_of self.now touches.now) }
     {
-        let mut blockers = Items::new(self.map.allocator());
+        let mut blockers = self.map.list();
         for touch in touches {
             self.put_touchers(*touch, &mut blockers)?;
         }
@@ -150,12 +170,20 @@ impl TokenTable {
         self.map.writes() as u16
     }
 
-    /// The inodes of files that some client has open, each once for each such client.
+    /// The inodes of files that some client has open, each once for each such client: those for which
+    /// `is_opened` answers yes, and no others.
     pub fn opened(&self) -> Result<Items<Ino>, Oom>
-        ensures sound { IfOk result (All (IsOpened self.now)) }
-        ensures complete { IfOk result (λ inos. (c : ClientId) (ino : Ino) → is_held (held_of self.now c ino Open) ≡ true → Contains inos ino) }
+        ensures members { IfOk result (λ inos. (ino : Ino) → Contains inos ino ↔ IsOpened self.now ino) }
     {
-        self.map.opened()
+        let inos = self.map.opened()?;
+        Ok(inos)
+    }
+
+    /// Whether some client has the file open. It takes no memory.
+    pub fn is_opened(&self, ino: Ino) -> bool
+        ensures { IsTrue result ↔ IsOpened self.now ino }
+    {
+        self.map.is_opened(ino)
     }
 
     fn put_blockers(&self, c: ClientId, need: Token, out: &mut BlockerList) -> Result<(), Oom>

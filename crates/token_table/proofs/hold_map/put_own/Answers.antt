@@ -1,4 +1,3 @@
-use Rattle.std.proofs.Common.{not}
 use Rattle.token_table.specs.Table.{same_client}
 use Rattle.token_table.proofs.Lists.{filters_next}
 use Rattle.token_table.proofs.hold_map.put_own.Goals as goal

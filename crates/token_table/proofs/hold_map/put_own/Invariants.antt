@@ -1,4 +1,4 @@
-use Rattle.std.proofs.Common.{◌≡◌, ◌++◌, take, filter, not}
+use Rattle.std.proofs.Common.{◌≡◌, ◌++◌, take, filter}
 use Rattle.token_table.specs.Table.{same_client}
 use Rattle.token_table.proofs.hold_map.put_own.Given as goal
 

@@ -1,4 +1,4 @@
-use Rattle.std.proofs.Common.{sym, ap, ◌∙◌, subst}
+use Rattle.std.proofs.Common.{ap, ◌∙◌, subst}
 use Rattle.token_table.specs.Table.{Table}
 use Rattle.token_table.specs.Series.{Same, table_of, with_holds, put_last}
 use Rattle.token_table.proofs.hold_map.HoldMap.set_all.Goals as goal

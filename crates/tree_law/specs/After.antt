@@ -9,7 +9,7 @@ use Rattle.tree_law.specs.Tree.{Tree, node_at, table_of, least_unused, no_descri
 use Rattle.tree_law.specs.Resolve.{new_place, file_named, removable, parent_of, last_of}
 use Rattle.tree_law.specs.Rename.{move_of, is_directory}
 use Rattle.tree_law.specs.Descriptors.{writable, within_limit}
-use Rattle.tree_law.specs.Idle.{swept, with_node}
+use Rattle.tree_law.specs.Idle.{swept, with_node, is_idle}
 use Rattle.tree_law.specs.declared.descriptor.Descriptor.{Descriptor}
 use Rattle.tree_law.specs.declared.mode.Mode.{Mode}
 use Rattle.tree_law.specs.declared.node.Node.{Node}
@@ -18,7 +18,7 @@ use Rattle.tree_law.specs.declared.call.Call.{Call}
 use Rattle.tree_law.specs.declared.call.Call.TheVariants.{Create, Mkdir, Unlink, Rmdir, Rename, Open, Close, Read, Write, Truncate, Stat, Readdir, Fsync}
 use Rattle.tree_law.specs.declared.rename.Move.{Move}
 use Rattle.tree_law.specs.declared.reply.Reply.{Reply}
-use Rattle.tree_law.specs.declared.reply.Reply.TheVariants.{Refused}
+use Rattle.tree_law.specs.declared.reply.Reply.TheVariants.{Done, Refused}
 use Rattle.tree_law.specs.declared.reply.Why.{Why}
 use Rattle.tree_law.specs.declared.entry.Entry.{Entry}
 use Rattle.tree_law.specs.declared.entry.Entry.TheVariants.{Call as Called, Flush, Purge}
@@ -138,3 +138,11 @@ abbrev pub after : Tree → Entry → Tree
 after tree (Called client number call reply new) = after_call tree client call reply new
 after tree (Flush client ino) = swept (with_node tree ino.0 (flushed_node (node_at tree ino)))
 after tree (Purge client) = swept (without_client tree client)
+
+-- what a client's purge leaves at a number: a file without that client's unflushed writes, if it isn't idle then
+abbrev pub purged_node : Tree → ClientId → Ino → Option Node
+purged_node tree client ino = if is_idle (without_client tree client) ino.0 then None else restored_node client (node_at tree ino)
+
+-- the tree after a client's `unlink` of a path was carried out
+abbrev pub unlinked : Tree → ClientId → ℕ → List (List ℕ) → Tree
+unlinked tree client number path = after tree (Called client number (Unlink path) Done None)

@@ -1,5 +1,6 @@
 -- The refusals of the calls that name a descriptor.
 use Rattle.std.specs.Prelude.{ℕ, Bool, true, false, List, slice_index_or, Option, Some, None, Result, Ok, Err, nat_lt, if◌then◌else◌}
+use Rattle.cal_base.specs.Limits.{file_size}
 use Rattle.cal_base.specs.declared.identity.Ino.{Ino}
 use Rattle.tree_law.specs.declared.descriptor.Descriptor.{Descriptor}
 use Rattle.tree_law.specs.declared.mode.Mode.{Mode}
@@ -37,5 +38,5 @@ writable table fd = file_behind writes (slice_index_or table fd None)
 
 -- a file that is to reach to this end: EFBIG past 262,144
 abbrev pub within_limit : ℕ → Result Ino Why → Result Ino Why
-within_limit end (Ok ino) = if nat_lt 262144 end then Err FBig else Ok ino
+within_limit end (Ok ino) = if nat_lt file_size end then Err FBig else Ok ino
 within_limit end (Err why) = Err why

@@ -1,5 +1,5 @@
 -- When a part is one of a tree: what it has of the tree's directories and files is as it is in the tree.
-use Rattle.std.specs.Prelude.{◌≡◌, ℕ, List, map, All, Option, Some, None, IsSome, length, ⊤}
+use Rattle.std.specs.Prelude.{◌≡◌, ℕ, List, map, All, Contains, Option, Some, None, IsSome, length, ⊤}
 use Rattle.std.specs.FinMap as finite
 use Rattle.cal_base.specs.declared.directory_entry.DirectoryEntry.{DirectoryEntry}
 use Rattle.cal_base.specs.declared.directory_entry.EntryKind.{EntryKind}
@@ -8,7 +8,7 @@ use Rattle.cal_base.specs.declared.identity.ClientId.{ClientId}
 use Rattle.cal_base.specs.declared.identity.Ino.{Ino}
 use Rattle.tree_law.specs.Names.{Names}
 use Rattle.tree_law.specs.Tree.{Tree, root, node_at, table_of, descriptor_at}
-use Rattle.tree_law.specs.Needs.{Need}
+use Rattle.tree_law.specs.Needs.{Need, names_read, needs}
 use Rattle.tree_law.specs.Part.{Part, needs_in}
 use Rattle.tree_law.specs.declared.call.Call.{Call}
 use Rattle.tree_law.specs.declared.descriptor.Descriptor.{Descriptor}
@@ -63,3 +63,18 @@ pub record HasNeed (part : Part) (need : Need) : Type 0 where
 -- the part has all that a call needs, as far as it shows that
 abbrev pub HasNeeds : Part → Call → Type 0
 HasNeeds part call = All (HasNeed part) (needs_in part call)
+
+-- the part has the entries that a need of Names is of
+abbrev pub HasNames : Part → Need → Type 0
+HasNames part need = need.1 ≡ 1 → IsSome (part.entries need.0)
+
+-- the part has the entries of each directory of which a call needs Names, as far as it shows that
+abbrev pub HasAllNames : Part → Call → Type 0
+HasAllNames part call = All (HasNames part) (needs_in part call)
+
+-- a call needs Names of a directory whose entries the part lacks; the part shows that need
+pub record LacksNames (tree : Tree) (client : ClientId) (part : Part) (call : Call) : Type 0 where
+  pub directory : Ino
+  pub shown : Contains (needs_in part call) (names_read directory)
+  pub needed : Contains (needs tree client call) (names_read directory)
+  pub lacks : part.entries directory ≡ None

@@ -3,6 +3,7 @@ use Rattle.std.specs.Prelude.{◌==◌, ◌&&◌, ℕ, Bool, true, false, not, n
 use Rattle.std.specs.Cmp.Lexicographic.{pointwise}
 use Rattle.std.specs.List.{starts_with}
 use Rattle.std.specs.FinMap as map
+use Rattle.cal_base.specs.Limits.{directory_entries}
 use Rattle.cal_base.specs.declared.identity.Ino.{Ino}
 use Rattle.tree_law.specs.Tree.{Tree, node_at}
 use Rattle.tree_law.specs.Resolve.{resolved, parent_of, prefix_of, last_of, looked_up}
@@ -18,7 +19,7 @@ is_directory (Some (Regular file)) = false
 is_directory None = false
 
 abbrev pub is_full_directory : Option Node → Bool
-is_full_directory (Some (Directory names)) = nat_le 1024 (map.len names)
+is_full_directory (Some (Directory names)) = nat_le directory_entries (map.len names)
 is_full_directory (Some (Regular file)) = false
 is_full_directory None = false
 

@@ -1,6 +1,7 @@
 -- Resolving a path, and the refusals of the calls that name one, in their order.
 use Rattle.std.specs.Prelude.{◌-◌, ◌==◌, ℕ, List, [], ◌∷◌, length, take, slice_index_or, Option, Some, None, Result, Ok, Err, ok_or, is_some, nat_le, if◌then◌else◌}
 use Rattle.std.specs.FinMap as map
+use Rattle.cal_base.specs.Limits.{directory_entries}
 use Rattle.cal_base.specs.declared.identity.Ino.{Ino}
 use Rattle.tree_law.specs.Tree.{Tree, root, node_at}
 use Rattle.tree_law.specs.declared.node.Node.{Node}
@@ -59,7 +60,7 @@ as_empty_directory None ino = Err NoEnt
 
 -- an inode as the place of a new name: ENOTDIR, EEXIST, DIRFULL
 abbrev pub room_for : List ℕ → Option Node → Ino → Result Ino Why
-room_for name (Some (Directory names)) ino = if is_some (map.get names name) then Err Exist else (if nat_le 1024 (map.len names) then Err DirFull else Ok ino)
+room_for name (Some (Directory names)) ino = if is_some (map.get names name) then Err Exist else (if nat_le directory_entries (map.len names) then Err DirFull else Ok ino)
 room_for name (Some (Regular file)) ino = Err NotDir
 room_for name None ino = Err NoEnt
 

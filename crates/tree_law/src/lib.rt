@@ -1,6 +1,17 @@
-//! What calypso promises of files: the tree, its calls, and the histories that are legal for one tree.
-//! The definitions stand in specs/; [`PlainTree`] computes them plainly. `PlainTree::apply` takes an
-//! entry exactly where the tree so far allows it next, and any other leaves the tree unchanged.
+//! What calypso promises of files: one file tree, its thirteen calls, and the histories that are legal
+//! for it. No word of packets, disks or servers stands here; what these do is measured by it.
+//!
+//! - [`read_path`] reads a path; [`Call`], [`Reply`] and [`Why`] are what clients ask and are told, and
+//!   an [`Entry`] is what happened: a call with its reply and its new inode, a flush, or a purge.
+//! - [`PlainTree`] is the tree. `answer` is the reply that the tree gives to a call, `makes` tells
+//!   whether it would make a name, and `least_free` finds its inode.
+//! - `PlainTree::apply` takes an entry exactly where the tree allows it next, and then the tree is the
+//!   one defined; after an error it is as it was. `change` makes an entry that is known to be allowed.
+//!
+//! The definitions stand in specs/, and are to be read before the code: Answer (replies), After (what an
+//! entry makes of the tree), Legal (which entries are allowed), Idle (which files go of themselves),
+//! Needs and Part (what a client holds). `PlainTree` computes them one by one; it is plain and slow.
+//! The laws say what follows from the definitions.
 #![tactic(auto)]
 
 mod answer;
@@ -23,8 +34,6 @@ mod reply;
 mod request;
 mod resolve;
 mod sweep;
-#[cfg(test)]
-mod tests;
 
 pub use apply::ApplyError;
 pub use call::Call;
@@ -32,8 +41,8 @@ pub use descriptor::{Descriptor, DescriptorTable};
 pub use directory::Directory;
 pub use entry::Entry;
 pub use law::{
-    a_part_answers_as_the_whole, a_purge_takes_one_client, a_write_is_read_back,
-    an_unlinked_file_still_reads, no_file_is_idle, one_answer,
+    a_part_answers_as_the_whole, a_part_with_names_asks_as_the_whole, a_purge_takes_one_client,
+    a_write_is_read_back, an_unlinked_file_still_reads, no_file_is_idle, one_answer,
 };
 pub use mode::Mode;
 pub use node::Node;

@@ -1,4 +1,5 @@
 ghost use Rattle.std.specs.Prelude.{◌≡◌, ◌+◌, nat_lt};
+ghost use Rattle.cal_base.specs.Limits.{file_size};
 ghost use Rattle.tree_law.specs.Tree.{table_of};
 ghost use Rattle.tree_law.specs.Descriptors.{opened, readable, reads, writable, writes, within_limit};
 
@@ -91,7 +92,7 @@ impl PlainTree {
 
 /// Whether bytes from an offset on end past the limit of a file.
 pub(crate) fn is_past_limit(offset: u64, len: usize) -> bool
-    ensures { result ≡ nat_lt 262144 (offset + len) }
+    ensures { result ≡ nat_lt file_size (offset + len) }
 {
     offset > FILE_SIZE || len as u64 > FILE_SIZE - offset
 }

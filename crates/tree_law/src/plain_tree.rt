@@ -1,5 +1,6 @@
 ghost use Rattle.std.specs.Prelude.{◌≡◌, ◌+◌, ◌≤◌, Option, Some, None, Ok, false, length, map, replicate, IfOk, IfSome, IfNone, OnOk, OnErr, IsTrue, ◌↔◌};
 ghost use Rattle.std.specs.Option.{option_copied};
+ghost use Rattle.cal_base.specs.Limits.{file_size};
 ghost use Rattle.tree_law.specs.Tree.{Tree, empty_tree, first_nodes, no_descriptors, node_at, table_of, descriptor_at, least_unused, is_purged, IsFree, IsLeastFree, IsFull};
 ghost use Rattle.file_bytes.specs.Bytes.{resized, written};
 ghost use Rattle.tree_law.specs.Idle.{is_named, is_open, with_node};
@@ -173,7 +174,7 @@ impl PlainTree {
         offset: usize,
         bytes: &[u8],
     ) -> Result<(), Oom>
-        requires { offset + length bytes.now ≤ 262144 }
+        requires { offset + length bytes.now ≤ file_size }
         ensures ok { OnOk result (self.new ≡ with_bytes self.old client (λ contents. written contents offset bytes.now) (Ok ino)) }
         ensures err { OnErr result (self.new ≡ self.old) }
     {
@@ -196,7 +197,7 @@ impl PlainTree {
         client: ClientId,
         size: usize,
     ) -> Result<(), Oom>
-        requires { size ≤ 262144 }
+        requires { size ≤ file_size }
         ensures ok { OnOk result (self.new ≡ with_bytes self.old client (λ contents. resized contents size) (Ok ino)) }
         ensures err { OnErr result (self.new ≡ self.old) }
     {
@@ -302,7 +303,7 @@ fn write_slot(
     offset: usize,
     bytes: &[u8],
 ) -> Result<(), Oom>
-    requires { offset + length bytes.now ≤ 262144 }
+    requires { offset + length bytes.now ≤ file_size }
     ensures ok { OnOk result (slot.new ≡ changed_node client (λ contents. written contents offset bytes.now) slot.old) }
     ensures err { OnErr result (slot.new ≡ slot.old) }
 {
@@ -320,7 +321,7 @@ fn truncate_slot(
     client: ClientId,
     size: usize,
 ) -> Result<(), Oom>
-    requires { size ≤ 262144 }
+    requires { size ≤ file_size }
     ensures ok { OnOk result (slot.new ≡ changed_node client (λ contents. resized contents size) slot.old) }
     ensures err { OnErr result (slot.new ≡ slot.old) }
 {

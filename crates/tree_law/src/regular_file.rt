@@ -1,4 +1,5 @@
 ghost use Rattle.std.specs.Prelude.{◌≡◌, ◌≤◌, ◌+◌, Some, IfOk, OnOk, OnErr, length, unwrap_or};
+ghost use Rattle.cal_base.specs.Limits.{file_size};
 ghost use Rattle.tree_law.specs.FileState.{new_file, changed_file, flushed_file, restored_file, is_writer};
 ghost use Rattle.file_bytes.specs.Bytes.{read_at, resized, written};
 
@@ -18,13 +19,14 @@ pub struct RegularFile {
 
 impl Model for RegularFile {
     ghost use Rattle.std.specs.Prelude.{◌≤◌, length, unwrap_or};
+    ghost use Rattle.cal_base.specs.Limits.{file_size};
     ghost use Rattle.tree_law.specs.FileState.{FileState};
 
     ghost Value = { FileState };
 
     ghost view = { λ file. record { contents = file.contents.items; kept = unwrap_or file.kept file.contents.items; writer = file.writer } };
 
-    ghost invariant = { λ file. (length file.contents.items ≤ 262144) × (length (unwrap_or file.kept file.contents.items) ≤ 262144) };
+    ghost invariant = { λ file. (length file.contents.items ≤ file_size) × (length (unwrap_or file.kept file.contents.items) ≤ file_size) };
 }
 
 impl RegularFile {
@@ -68,7 +70,7 @@ impl RegularFile {
         offset: usize,
         bytes: &[u8],
     ) -> Result<(), Oom>
-        requires { offset + length bytes.now ≤ 262144 }
+        requires { offset + length bytes.now ≤ file_size }
         ensures ok { OnOk result (self.new ≡ changed_file client (written self.old.contents offset bytes.now) self.old) }
         ensures err { OnErr result (self.new ≡ self.old) }
     {
@@ -80,7 +82,7 @@ impl RegularFile {
 
     /// Cuts the present bytes off at a size, or grows them to it by zeros. What lasts stays.
     pub fn truncate(&mut self, alloc: Global, client: ClientId, size: usize) -> Result<(), Oom>
-        requires { size ≤ 262144 }
+        requires { size ≤ file_size }
         ensures ok { OnOk result (self.new ≡ changed_file client (resized self.old.contents size) self.old) }
         ensures err { OnErr result (self.new ≡ self.old) }
     {

@@ -14,3 +14,4 @@ pub mod Sweeping
 pub mod Walks
 pub mod EntryOrder
 pub mod NameTests
+mod Placing

@@ -6,8 +6,9 @@ ghost use Rattle.tree_law.specs.Answer.{answer, bytes_of, counted, listing_of, m
 use crate::call::Call;
 use crate::node::Node;
 use crate::plain_tree::PlainTree;
-use crate::rename::Move;
+use crate::rename::{Move, move_of};
 use crate::reply::{Reply, Why};
+use crate::resolving::{file_named, new_place, removable, resolve};
 use cal_base::{Blob, ClientId, Ino, Oom};
 use std::alloc::Global;
 
@@ -18,14 +19,14 @@ impl PlainTree {
         ensures { IfOk result (λ reply. reply ≡ answer self.now client call.now) }
     {
         match call {
-            Call::Create(path) => Ok(reply_of(self.new_place(path.names()))),
-            Call::Mkdir(path) => Ok(reply_of(self.new_place(path.names()))),
-            Call::Unlink(path) => Ok(reply_of(self.file_named(path.names()))),
-            Call::Rmdir(path) => Ok(reply_of(self.removable(path.names()))),
-            Call::Rename(path, goal) => Ok(moved(self.move_of(path.names(), goal.names()))),
+            Call::Create(path) => Ok(reply_of(new_place(self, path.names()))),
+            Call::Mkdir(path) => Ok(reply_of(new_place(self, path.names()))),
+            Call::Unlink(path) => Ok(reply_of(file_named(self, path.names()))),
+            Call::Rmdir(path) => Ok(reply_of(removable(self, path.names()))),
+            Call::Rename(path, goal) => Ok(moved(move_of(self, path.names(), goal.names()))),
             Call::Open(path, _) => Ok(opened_as(
                 self.least_unused(client),
-                self.file_named(path.names()),
+                file_named(self, path.names()),
             )),
             Call::Close(fd) => Ok(reply_of(self.opened(client, *fd))),
             Call::Read { fd, offset, len } => {
@@ -33,8 +34,8 @@ impl PlainTree {
             }
             Call::Write { fd, offset, bytes } => Ok(self.write_count(client, *fd, *offset, bytes)),
             Call::Truncate { fd, size } => Ok(reply_of(self.truncate_place(client, *fd, *size))),
-            Call::Stat(path) => Ok(self.status(self.resolve(path.names()))),
-            Call::Readdir(path) => self.list(alloc, self.resolve(path.names())),
+            Call::Stat(path) => Ok(self.status(resolve(self, path.names()))),
+            Call::Readdir(path) => self.list(alloc, resolve(self, path.names())),
             Call::Fsync(fd) => Ok(reply_of(self.opened(client, *fd))),
         }
     }

@@ -10,8 +10,9 @@ use crate::call::Call;
 use crate::entry::Entry;
 use crate::plain_tree::PlainTree;
 use crate::regular_file::is_writer;
-use crate::rename::Move;
+use crate::rename::{Move, move_of};
 use crate::reply::{Reply, Why};
+use crate::resolving::new_place;
 use cal_base::{Blob, ClientId, Ino, NameList, Oom};
 
 /// Why an entry was not taken. The tree is then as it was.
@@ -179,11 +180,11 @@ impl PlainTree {
         ensures { result ≡ blocks_wanted self.now client call.now }
     {
         match call {
-            Call::Create(path) => unless_refused(1, self.new_place(path.names())),
-            Call::Mkdir(path) => unless_refused(1, self.new_place(path.names())),
+            Call::Create(path) => unless_refused(1, new_place(self, path.names())),
+            Call::Mkdir(path) => unless_refused(1, new_place(self, path.names())),
             Call::Unlink(_) => 0,
             Call::Rmdir(_) => 0,
-            Call::Rename(path, goal) => blocks_of_move(self.move_of(path.names(), goal.names())),
+            Call::Rename(path, goal) => blocks_of_move(move_of(self, path.names(), goal.names())),
             Call::Open(_, _) => 0,
             Call::Close(_) => 0,
             Call::Read { .. } => 0,
@@ -204,8 +205,8 @@ impl PlainTree {
         ensures { IsTrue result ↔ Makes self.now call.now }
     {
         match call {
-            Call::Create(path) => self.new_place(path.names()).is_ok(),
-            Call::Mkdir(path) => self.new_place(path.names()).is_ok(),
+            Call::Create(path) => new_place(self, path.names()).is_ok(),
+            Call::Mkdir(path) => new_place(self, path.names()).is_ok(),
             Call::Unlink(_) => false,
             Call::Rmdir(_) => false,
             Call::Rename(_, _) => false,

@@ -11,13 +11,15 @@ ghost use Rattle.tree_law.specs.Legal.{IsNewInode};
 use crate::call::Call;
 use crate::descriptor::Descriptor;
 use crate::directory::Directory;
+use crate::lookup::Lookup;
 use crate::mode::Mode;
 use crate::node::Node;
 use crate::path::{Path, copy_name};
 use crate::plain_tree::PlainTree;
 use crate::regular_file::RegularFile;
-use crate::rename::{Move, is_directory};
+use crate::rename::{Move, move_of};
 use crate::reply::{Reply, Why};
+use crate::resolving::{file_named, new_place, parent_of, removable};
 use cal_base::{Blob, ClientId, Ino, Oom};
 
 impl PlainTree {
@@ -107,7 +109,7 @@ impl PlainTree {
         ensures ok { OnOk result (self.new ≡ with_entry self.old (new_place self.old path.now) (last_of path.now) new_ino node) }
         ensures err { OnErr result (self.new ≡ self.old) }
     {
-        match self.new_place(path) {
+        match new_place(self, path) {
             Ok(place) => match new_ino {
                 Some(ino) => {
                     let name = copy_name(self.alloc(), path[path.len() - 1].as_slice())?;
@@ -133,7 +135,7 @@ impl PlainTree {
     fn take_entry(&mut self, path: &[Blob])
         ensures { self.new ≡ without_entry self.old (parent_of self.old path.now) path.now }
     {
-        match self.parent(path) {
+        match parent_of(self, path) {
             Ok(place) => {
                 if !path.is_empty() {
                     self.take_name(place, &path[path.len() - 1]);
@@ -155,7 +157,7 @@ impl PlainTree {
     fn take_directory(&mut self, path: &[Blob])
         ensures { self.new ≡ without_directory self.old (removable self.old path.now) (parent_of self.old path.now) path.now }
     {
-        match self.removable(path) {
+        match removable(self, path) {
             Ok(ino) => {
                 self.take_entry(path);
                 self.put_node(ino.0, None);
@@ -179,7 +181,7 @@ impl PlainTree {
         ensures ok { OnOk result (self.new ≡ with_move self.old (move_of self.old path.now goal.now) (last_of path.now) (last_of goal.now)) }
         ensures err { OnErr result (self.new ≡ self.old) }
     {
-        match self.move_of(path, goal) {
+        match move_of(self, path, goal) {
             Ok(moving) => self.carry_move(moving, &path[path.len() - 1], &goal[goal.len() - 1]),
             Err(_) => Ok(()),
         }
@@ -205,7 +207,7 @@ impl PlainTree {
         ensures { self.new ≡ without_replaced self.old replaced }
     {
         if let Some(ino) = replaced {
-            if is_directory(self.node(ino)) {
+            if self.is_directory(ino) {
                 self.put_node(ino.0, None);
             }
         }
@@ -218,7 +220,7 @@ impl PlainTree {
         self.put_open(
             client,
             self.least_unused(client),
-            self.file_named(path.names()),
+            file_named(self, path.names()),
             mode,
         );
         self.sweep();

@@ -8,8 +8,9 @@ use crate::call::Call;
 use crate::node::Node;
 use crate::plain_tree::PlainTree;
 use crate::regular_file::is_writer;
-use crate::rename::Move;
+use crate::rename::{Move, move_of};
 use crate::reply::{Reply, Why};
+use crate::resolving::{file_named, resolve};
 use cal_base::{ClientId, Ino};
 
 impl PlainTree {
@@ -47,10 +48,10 @@ impl PlainTree {
         match call {
             Call::Create(_) => true,
             Call::Mkdir(_) => true,
-            Call::Unlink(path) => self.is_flushed_by_all(self.file_named(path.names())),
+            Call::Unlink(path) => self.is_flushed_by_all(file_named(self, path.names())),
             Call::Rmdir(_) => true,
             Call::Rename(path, goal) => {
-                self.is_flushed_move(self.move_of(path.names(), goal.names()))
+                self.is_flushed_move(move_of(self, path.names(), goal.names()))
             }
             Call::Open(_, _) => true,
             Call::Close(_) => true,
@@ -59,7 +60,7 @@ impl PlainTree {
             Call::Truncate { fd, .. } => {
                 self.is_flushed_by_others(client, self.writable(client, *fd))
             }
-            Call::Stat(path) => self.is_flushed_by_others(client, self.resolve(path.names())),
+            Call::Stat(path) => self.is_flushed_by_others(client, resolve(self, path.names())),
             Call::Readdir(_) => true,
             Call::Fsync(fd) => self.is_flushed_by(client, self.opened(client, *fd)),
         }

@@ -23,16 +23,18 @@ mod directory;
 mod entry;
 mod flushed;
 mod law;
+mod lookup;
 mod mode;
 mod node;
 mod opened;
 mod path;
+mod plain_lookup;
 mod plain_tree;
 mod regular_file;
 mod rename;
 mod reply;
 mod request;
-mod resolve;
+mod resolving;
 mod sweep;
 
 pub use apply::ApplyError;
@@ -44,11 +46,13 @@ pub use law::{
     a_part_answers_as_the_whole, a_part_with_names_asks_as_the_whole, a_purge_takes_one_client,
     a_write_is_read_back, an_unlinked_file_still_reads, no_file_is_idle, one_answer,
 };
+pub use lookup::Lookup;
 pub use mode::Mode;
 pub use node::Node;
 pub use path::{Path, ReadPathError, is_name, read_path};
 pub use plain_tree::PlainTree;
 pub use regular_file::RegularFile;
-pub use rename::Move;
+pub use rename::{Move, move_of};
 pub use reply::{Reply, Why};
 pub use request::{Asked, Request, Want};
+pub use resolving::{file_named, new_place, parent_of, removable, resolve};

@@ -13,7 +13,7 @@ pub returns-then-not-is_name-clause-bad : goal.returns-then-not-is_name-clause-b
 returns-then-not-is_name-clause-bad c = λ e is spelled.
     let t = told _ _ _ _ e (omega arith) c.parts_of-ino.ensures.parts is spelled in
     let same : c.in-Some.name.now ≡ e.name = c.in-Some.ensures.again e.name (sym t.same_count) (t.same_rest ∙ ap (λ (n : ℕ). padded n e.name) (sym c.parts_of-ino.ensures.length)) in
-    let yes : c.is_name.result ≡ true = c.is_name.ensures.1 (subst IsName (sym same) is.name) in
+    let yes : c.is_name.result ≡ true = c.is_name.ensures.name.1 (subst IsName (sym same) is.name) in
     cc
 
 pub returns-clause-found : goal.returns-clause-found

@@ -1,3 +1,5 @@
+pub mod Aside
+pub mod EachNode
 pub mod Entries
 pub mod Keeping
 pub mod LastFlush
@@ -5,7 +7,10 @@ pub mod Moves
 pub mod NameChanges
 pub mod OneName
 pub mod OneNameKept
+pub mod OpenedFiles
 pub mod Paths
 pub mod Reading
 pub mod Renaming
+pub mod SoundNodes
 pub mod Whole
+pub mod Writers

@@ -1,3 +1,4 @@
 pub mod Lasting
 pub mod OneName
+pub mod Standing
 pub mod Writing

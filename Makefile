@@ -1,11 +1,26 @@
-.PHONY: demo test
+.PHONY: demo build test edits
 
-# Proves and builds the program, and runs the first script through it.
+# Shows a run of the first script: script, then text. It runs the program without proving it, which takes under
+# a minute on a fresh machine; what the prover says goes to build/demo.log.
 demo:
+	@mkdir -p build
 	@cat examples/first.script
 	@echo
-	cd crates/calypso && rt run -- run < ../../examples/first.script
+	@cd crates/calypso && rt try -- run < ../../examples/first.script 2> ../../build/demo.log
+	@echo
+	@echo "This run was not proved (build/demo.log). 'make build' proves the program and leaves it as build/calypso;"
+	@echo "'make test' is the merge gate: every proof, wrong body, test and program. README.md has their times."
 
-# The merge gate: every proof, must-fail edit, test and program, and the checks of the layout.
+# Proves the program and all that it stands on, builds it, and leaves it as build/calypso, where the gate lets it be.
+build:
+	@mkdir -p build
+	cd crates/calypso && rt run -- run < ../../examples/first.script > ../../build/first.text 2> ../../build/build.log
+	cp crates/calypso/out/calypso build/calypso
+
+# The merge gate.
 test:
 	bash .ci/run
+
+# The wrong bodies of the dearest crates, which the gate leaves out: the check has to refuse each.
+edits:
+	bash .ci/edits

@@ -1,10 +1,10 @@
 #!/usr/bin/env bash
 # Times the proved program on scripts of 16, 32 and 64 MiB: long calls padded by spaces, and long comments.
-# Run by hand, after `make demo`. The times should grow with the bytes.
+# Run by hand, after `make build`. The times should grow with the bytes.
 set -eu
 cd "$(dirname "$0")/.."
-program=crates/calypso/out/calypso
-[[ -x $program ]] || { echo "build it first: make demo" >&2; exit 1; }
+program=build/calypso
+[[ -x $program ]] || { echo "build it first: make build" >&2; exit 1; }
 work=$(mktemp -d)
 trap 'rm -rf "$work"' EXIT
 

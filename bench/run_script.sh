@@ -1,13 +1,13 @@
 #!/usr/bin/env bash
 # Times the program on a script of as many lines as a script may have, 65,536, and on one of half the
-# length, and prints calls a second for both. It is run by hand after `make demo`, which builds the
+# length, and prints calls a second for both. It is run by hand after `make build`, which builds the
 # program, and not by the merge gate.
 set -eu
 cd "$(dirname "$0")/.."
 
-program=crates/calypso/out/calypso
+program=build/calypso
 if [[ ! -x $program ]]; then
-  echo "run_script: $program isn't built: run 'make demo' first" >&2
+  echo "run_script: $program isn't built: run 'make build' first" >&2
   exit 1
 fi
 

@@ -1,12 +1,16 @@
-//! The replies of changes in bytes, as messages and client slots carry them: one byte, and behind an
-//! 11, want of blocks, two numbers. Each reply of a change has one spelling of 1 or 5 bytes.
+//! The replies of changes in bytes, as messages and client slots carry them.
+//!
+//! - `put_reply` puts one byte, and behind an 11, want of blocks, two numbers of two bytes.
+//! - `take_reply` takes a reply from the front of bytes, exactly where one stands there: `Short` where
+//!   bytes are missing, `Unknown` where no reply begins so.
+//!
+//! Each reply of a change has one spelling, of 1 or 5 bytes, and none begins another (the laws
+//! `one_or_five` and `one_spelling`).
 #![tactic(auto)]
 
 mod law;
 mod put;
 mod take;
-#[cfg(test)]
-mod tests;
 
 pub use law::{one_or_five, one_spelling};
 pub use put::put_reply;

@@ -1,6 +1,13 @@
-//! The directory of a volume: blocks of 128 slots, as a finite map from names to inodes, with places.
-//! A block is read exactly where it spells slots, each name stands once, and an entry goes into the
-//! first empty slot.
+//! The directory of a volume: at most eight blocks of 128 slots, as a finite map from names to inodes,
+//! with places.
+//!
+//! - `DirBlocks::room` takes all memory that a directory will need. `load` takes the next block exactly
+//!   where it may follow those before it; `store` writes a block in its one spelling (`one_block`), which
+//!   loads back (`stored_loads_back`).
+//! - `find`, `place` and `by_name` look up by an index that is kept in the order of names, by halves.
+//! - `insert` puts an entry into the first empty slot, or behind a new block of empty ones; the directory
+//!   is full at 1,024 entries. `replace` keeps the slot, `remove` and `clear` leave it empty.
+//! - Each name stands once, for one inode (`one_inode_a_name`).
 #![tactic(auto)]
 
 mod block;
@@ -11,8 +18,6 @@ mod law;
 mod load;
 mod slot_changes;
 mod slot_table;
-#[cfg(test)]
-mod tests;
 
 pub use block::BadBlock;
 pub use dir_blocks::{DirBlocks, DirFull};

@@ -1,3 +1,4 @@
+pub mod Endings
 pub mod Halts
 pub mod Port
 pub mod Writes

@@ -1,4 +1,4 @@
-use Rattle.std.specs.Prelude.{◌≡◌, ◌+◌, ◌-◌, ◌^◌, ◌⊎◌, ℕ, min, nat_eq, if◌then◌else◌, List, [], ◌∷◌, Option, Some, None, Result, Ok, Err}
+use Rattle.std.specs.Prelude.{◌≡◌, ◌+◌, ◌-◌, ◌^◌, ◌⊎◌, ◌++◌, ℕ, min, nat_eq, if◌then◌else◌, List, [], ◌∷◌, length, take, Option, Some, None, Result, Ok, Err}
 use Rattle.cal_base.specs.declared.identity.View.{View}
 use Rattle.shared_disk.specs.Disk.{Disk, after, fenced, MeetsOther, LeavesAny}
 use Rattle.shared_disk.specs.declared.stop.Stop.{Stop}
@@ -7,19 +7,39 @@ use Rattle.shared_disk.specs.declared.disk_refusal.DiskRefusal.TheVariants.{Fenc
 use Rattle.fence.specs.declared.port_halt.PortHalt.{PortHalt}
 use Rattle.fence.specs.declared.port_halt.PortHalt.TheVariants.{Fenced, Failed, Stopped}
 
--- a port: its view, the writes accepted since its stop was armed or, with none, since it was taken, and the stop
+-- the accepted writes that are kept, each with its sector and the bytes that it put there, and for how many more there is room
+pub record Kept : Type 0 where
+  pub writes : List (ℕ × List ℕ)
+  pub space : ℕ
+
+-- these writes are kept behind the others, as far as there is room
+abbrev pub keeping_all : Kept → List (ℕ × List ℕ) → Kept
+keeping_all kept made = record { writes = kept.writes ++ take kept.space made; space = kept.space - length made }
+
+-- one write more is kept, if there is room
+abbrev pub keeping : Kept → ℕ × List ℕ → Kept
+keeping kept write = keeping_all kept (write ∷ [])
+
+-- a port: its view, how many writes it accepted since it was taken or `arm` was last called, the armed
+-- stop, and the accepted writes that it keeps
 pub record PortState : Type 0 where
   pub view : ℕ
   pub accepted : ℕ
   pub stop : Option Stop
+  pub kept : Kept
 
--- a port as it is taken: nothing accepted, no stop
+-- a port as it is taken: nothing accepted, no stop, nothing kept
 abbrev pub fresh : ℕ → PortState
-fresh view = record { view = view; accepted = 0; stop = None }
+fresh view = record { view = view; accepted = 0; stop = None; kept = record { writes = []; space = 0 } }
 
--- the port after so many more accepted writes
-abbrev pub counting : PortState → ℕ → PortState
-counting port n = record port { accepted = min (port.accepted + n) (2 ^ 64 - 1) }
+-- the port after it accepted this write: it is counted, and kept if there is room
+abbrev pub accepting : PortState → ℕ × List ℕ → PortState
+accepting port write = record port { accepted = min (port.accepted + 1) (2 ^ 64 - 1); kept = keeping port.kept write }
+
+-- the port after it accepted these writes, in order
+abbrev pub accepting_all : PortState → List (ℕ × List ℕ) → PortState
+accepting_all port [] = port
+accepting_all port (w ∷ ws) = accepting_all (accepting port w) ws
 
 -- a stop, if so many writes were accepted as it lets through
 abbrev pub due_after : ℕ → Option Stop → Option Stop
@@ -30,10 +50,10 @@ due_after accepted (Some stop) = if nat_eq stop.after accepted then Some stop el
 abbrev pub due : PortState → Option Stop
 due port = due_after port.accepted port.stop
 
--- a write of these bytes was accepted: it is in its sector, it is the last change, and it is counted
+-- a write of these bytes was accepted: it is in its sector, it is the last change, and it is counted and kept
 pub record Accepts (port : PortState) (old : Disk) (at : ℕ) (bytes : List ℕ) (port' : PortState) (new : Disk) : Type 0 where
   pub own : old.key ≡ port.view
-  pub counted : port' ≡ counting port 1
+  pub counted : port' ≡ accepting port (at, bytes)
   pub changed : new ≡ after old ((at, bytes) ∷ [])
 
 -- a write met another key: nothing changed

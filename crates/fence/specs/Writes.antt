@@ -2,7 +2,7 @@ use Rattle.std.specs.Prelude.{◌≡◌, ◌≤◌, ◌<◌, ◌+◌, ◌⊎◌,
 use Rattle.cal_base.specs.Faults.{Rose}
 use Rattle.shared_disk.specs.Disk.{Disk, after}
 use Rattle.shared_disk.specs.Sectors.{left_of}
-use Rattle.fence.specs.Port.{PortState, counting, due, PortWrites}
+use Rattle.fence.specs.Port.{PortState, accepting, due, PortWrites}
 use Rattle.fence.specs.declared.port_halt.PortHalt.{PortHalt}
 use Rattle.fence.specs.declared.port_halt.PortHalt.TheVariants.{Failed}
 
@@ -14,14 +14,14 @@ pub record IsFree (port : PortState) (disk : Disk) : Type 0 where
 -- all of these writes were accepted, in order
 abbrev pub MakesAll : PortState → Disk → List (ℕ × List ℕ) → PortState → Disk → Type 0
 MakesAll port old [] port' new = (port' ≡ port) × (new ≡ old)
-MakesAll port old (w ∷ ws) port' new = IsFree port old × MakesAll (counting port 1) (after old (w ∷ [])) ws port' new
+MakesAll port old (w ∷ ws) port' new = IsFree port old × MakesAll (accepting port w) (after old (w ∷ [])) ws port' new
 
 -- these writes were accepted, in order, up to one that halted
 abbrev pub HaltsIn : PortState → Disk → List (ℕ × List ℕ) → PortHalt → PortState → Disk → Type 0
 HaltsIn port old [] halt port' new = ⊥
 HaltsIn port old (w ∷ ws) halt port' new =
     PortWrites port old w.0 w.1 (Err halt) port' new
-    ⊎ (IsFree port old × HaltsIn (counting port 1) (after old (w ∷ [])) ws halt port' new)
+    ⊎ (IsFree port old × HaltsIn (accepting port w) (after old (w ∷ [])) ws halt port' new)
 
 -- the port makes these writes in order: all, or up to one that halts
 abbrev pub Makes : PortState → Disk → List (ℕ × List ℕ) → Result (Unit {0}) PortHalt → PortState → Disk → Type 0

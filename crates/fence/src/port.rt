@@ -1,10 +1,11 @@
-ghost use Rattle.std.specs.Prelude.{◌≡◌, ◌≤◌, ◌<◌, ◌+◌, List, All, length, OnOk, IfErr};
+ghost use Rattle.std.specs.Prelude.{◌≡◌, ◌≤◌, ◌<◌, ◌+◌, ◌-◌, List, [], All, length, OnOk, IfErr, IfSome, IfNone, vec_len, vec_capacity};
 ghost use Rattle.std.specs.Option.{option_copied};
 ghost use Rattle.cal_base.specs.Faults.{Rose};
 ghost use Rattle.shared_disk.specs.Disk.{Reads, TellsWhole};
-ghost use Rattle.fence.specs.Port.{PortWrites, Takes, due, counting};
+ghost use Rattle.fence.specs.Port.{PortWrites, Takes, due, accepting};
 ghost use Rattle.fence.specs.Writes.{Runs};
 
+use crate::kept_writes::KeptWrites;
 use crate::port_halt::PortHalt;
 use cal_base::{Sector, View};
 use shared_disk::{DiskRefusal, PortDisk, Stop};
@@ -16,6 +17,7 @@ pub struct Port {
     view: View,
     accepted: u64,
     stop: Option<Stop>,
+    kept: KeptWrites,
 }
 
 impl Model for Port {
@@ -23,7 +25,7 @@ impl Model for Port {
 
     ghost Value = { PortState };
 
-    ghost view = { λ port. record { view = port.view.0; accepted = port.accepted; stop = port.stop } };
+    ghost view = { λ port. record { view = port.view.0; accepted = port.accepted; stop = port.stop; kept = port.kept } };
 }
 
 impl Port {
@@ -48,6 +50,7 @@ impl Port {
             view,
             accepted: 0,
             stop: None,
+            kept: KeptWrites::none(),
         })
     }
 
@@ -58,8 +61,8 @@ impl Port {
         self.view
     }
 
-    /// How many writes were accepted since the stop was armed or, with none, since the port was taken,
-    /// a torn one included. The count stays at the last u64.
+    /// How many writes were accepted since the port was taken or `arm` was last called, be it with a
+    /// stop or with none; a torn write is one of them. The count stays at the last u64.
     pub fn accepted(&self) -> u64
         ensures { result ≡ self.now.accepted }
     {
@@ -72,6 +75,31 @@ impl Port {
     {
         self.accepted = 0;
         self.stop = stop;
+    }
+
+    /// Keeps from now on, behind what the list holds, each accepted write with the bytes that it put
+    /// into its sector, a torn one too, as far as the list has room. Keeping takes no memory.
+    pub fn keep(&mut self, list: Vec<(u32, Sector)>)
+        ensures { self.new ≡ record self.old { kept = record { writes = list.items; space = vec_capacity list - vec_len list } } }
+    {
+        self.kept = KeptWrites::in_list(list);
+    }
+
+    /// The writes that are kept, in order.
+    pub fn kept(&self) -> &[(u32, Sector)]
+        ensures { result.now ≡ self.now.kept.writes }
+    {
+        self.kept.writes()
+    }
+
+    /// Hands out the list of `keep` with the writes that it keeps, and keeps none from then on. Without
+    /// a list nothing was kept.
+    pub fn hand_out(&mut self) -> Option<Vec<(u32, Sector)>>
+        ensures some { IfSome result (λ list. list.items ≡ self.old.kept.writes) }
+        ensures none { IfNone result (self.old.kept.writes ≡ []) }
+        ensures left { self.new ≡ record self.old { kept = record { writes = []; space = 0 } } }
+    {
+        self.kept.hand_out()
     }
 
     /// Reads a sector, below 2,596, under the port's view.
@@ -111,15 +139,15 @@ impl Port {
         match self.due() {
             None => {
                 disk.write(self.view, sector, from)?;
-                self.count();
+                self.accept(sector, from);
                 Ok(())
             }
             Some(stop) => {
-                let Some(torn) = stop.torn.as_ref() else {
+                let Some(torn) = stop.torn else {
                     return Err(PortHalt::Stopped);
                 };
-                disk.write(self.view, sector, torn)?;
-                self.count();
+                disk.write(self.view, sector, &torn)?;
+                self.accept(sector, &torn);
                 Err(PortHalt::Stopped)
             }
         }
@@ -135,11 +163,12 @@ impl Port {
         }
     }
 
-    /// Counts an accepted write.
-    fn count(&mut self)
-        ensures { self.new ≡ counting self.old 1 }
+    /// Counts an accepted write, and keeps it if there is room.
+    fn accept(&mut self, sector: u32, bytes: &Sector)
+        ensures { self.new ≡ accepting self.old (sector, bytes.now) }
     {
         self.accepted = self.accepted.saturating_add(1);
+        self.kept.put(sector, bytes);
     }
 
     /// Makes these writes in order, up to one that halts.

@@ -10,8 +10,9 @@ use Rattle.journal.proofs.AfterCommit.{told_after}
 use Rattle.journal.specs.Layout.{outside}
 use Rattle.request_log.specs.declared.slot.Slot.{Slot}
 use Rattle.shared_disk.specs.Disk.{Disk}
-use Rattle.shared_disk.specs.Sectors.{IsWhole, written}
-use Rattle.volume.proofs.Empty.{first_inodes, first_slots, first_stands, first_volume, format_replays, no_slots}
+use Rattle.shared_disk.proofs.Changes.{length-written}
+use Rattle.shared_disk.specs.Sectors.{written}
+use Rattle.volume.proofs.Empty.{first_inodes, first_slots, first_stands, first_volume, format_closes, format_replays, no_slots}
 use Rattle.volume.proofs.First.{all_free, map_of_free}
 use Rattle.volume.specs.Format.{format_writes, root_inode}
 use Rattle.volume.specs.Stands.{StandsForHistory}
@@ -40,16 +41,18 @@ same_map = map_of_free
 first_is_fresh : (clients : ℕ) → first_volume clients ≡ fresh_volume clients
 first_is_fresh clients = λ i. record { clients = clients; free = same_map i; slots = same_slots i; inodes = same_inodes i; directories = same_directories i }
 
-fresh_stands : (x : List (List ℕ)) (clients : ℕ) → IsWhole x → 1 ≤ clients → clients ≤ 16 → StandsForHistory (outside (written x (format_writes clients))) (fresh_volume clients) []
+fresh_stands : (x : List (List ℕ)) (clients : ℕ) → length x ≡ 2596 → 1 ≤ clients → clients ≤ 16 → StandsForHistory (outside (written x (format_writes clients))) (fresh_volume clients) []
 fresh_stands x clients whole some few = subst (λ (v : Volume). StandsForHistory (outside (written x (format_writes clients))) v []) (first_is_fresh clients) (first_stands x clients whole some few)
 
 -- a whole run of the format's writes
 pub run_fresh : (x : List (List ℕ)) (clients : ℕ) (p : PortState) (d : Disk) (f : ℕ) (r : Result (Unit {0}) PortHalt) (p' : PortState) (d' : Disk) (f' : ℕ)
-    → Runs p d f (format_writes clients) r p' d' f' → d.sectors ≡ Some x → IsWhole x → 1 ≤ clients → clients ≤ 16 → OnOk r (TellsFresh d' clients)
+    → Runs p d f (format_writes clients) r p' d' f' → d.sectors ≡ Some x → length x ≡ 2596 → 1 ≤ clients → clients ≤ 16 → OnOk r (TellsFresh d' clients)
 run_fresh x clients p d f (Ok done) p' d' f' a told whole some few = record {
   sectors = written x (format_writes clients);
   told = told_after x (format_writes clients) d d' told (all_after (format_writes clients) p d p' d' a.makes);
   replays = format_replays x clients whole;
+  closed = format_closes x clients whole;
+  count = length-written (format_writes clients) x ∙ whole;
   stands = fresh_stands x clients whole some few;
 }
 run_fresh x clients p d f (Err halt) p' d' f' a told whole some few = tt

@@ -1,7 +1,7 @@
 -- What the plans of purges, reapings and flushes, and a fresh format, promise of the sectors.
-use Rattle.std.specs.Prelude.{◌≡◌, ◌∷◌, [], ℕ, List, Option, Some}
+use Rattle.std.specs.Prelude.{◌≡◌, ◌∷◌, [], ℕ, List, length, Option, Some}
 use Rattle.cal_base.specs.declared.identity.ClientId.{ClientId}
-use Rattle.journal.specs.Commit.{replayed}
+use Rattle.journal.specs.Commit.{IsClosed, replayed}
 use Rattle.journal.specs.Layout.{outside}
 use Rattle.shared_disk.specs.Disk.{Disk}
 use Rattle.shared_disk.specs.Sectors.{cut, written}
@@ -29,9 +29,11 @@ pub record FlushStands (sectors : List (List ℕ)) (v : Volume) (history : List 
   pub before : StandsForHistory (written sectors blocks) v history
   pub last : EntryStands (written sectors blocks) v history e homes (Flushed client flush.ino)
 
--- the sectors of a disk are told, need no replay, and stand for the empty history by the volume of a fresh format
+-- the sectors of a disk are told, all of them, the gate is closed, so that they need no replay, and they stand for the empty history by the volume of a fresh format
 pub record TellsFresh (disk : Disk) (clients : ℕ) : Type 0 where
   pub sectors : List (List ℕ)
   pub told : disk.sectors ≡ Some sectors
+  pub closed : IsClosed sectors
+  pub count : length sectors ≡ 2596
   pub replays : replayed sectors ≡ Some (outside sectors)
   pub stands : StandsForHistory (outside sectors) (fresh_volume clients) []

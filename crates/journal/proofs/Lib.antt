@@ -4,6 +4,7 @@ pub mod Copies
 pub mod Headers
 pub mod Law
 pub mod Moments
+pub mod OpeningLemmas
 pub mod Sectors
 pub mod Replaying
 pub mod Stable

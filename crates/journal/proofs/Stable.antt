@@ -2,13 +2,15 @@
 use Rattle.std.proofs.Common.{◌≡◌, ◌≤◌, ◌+◌, ℕ, Bool, true, false, if◌then◌else◌, List, [], ◌∷◌, ◌++◌, length, Option, Some, None, Result, Ok, Err, refl, sym, ap, ◌∙◌, subst, inl, inr, arith}
 use Rattle.std.specs.Prelude.{IsTrue}
 use Rattle.std.proofs.lemmas.List.{append-nil}
-use Rattle.shared_disk.specs.Disk.{Disk, after}
+use Rattle.shared_disk.specs.Disk.{Disk, KeepsCount, after}
 use Rattle.shared_disk.specs.Homes.{IsTransaction, sectors_of}
-use Rattle.shared_disk.specs.Sectors.{written, left_of, IsWhole}
-use Rattle.shared_disk.proofs.Changes.{left_of-front, left_of-back}
+use Rattle.shared_disk.specs.Sectors.{written, left_of}
+use Rattle.shared_disk.proofs.Changes.{after-nil, keeps_count, left_of-front, left_of-back}
+use Rattle.fence.proofs.EndingLemmas.{run_keeps_count}
 use Rattle.fence.specs.Port.{PortState}
 use Rattle.fence.specs.Writes.{HaltsIn}
 use Rattle.fence.specs.declared.port_halt.PortHalt.{PortHalt}
+use Rattle.fence.specs.declared.port_halt.PortHalt.TheVariants.{Failed as Portfailed, Stopped as Portstopped}
 use Rattle.fence.proofs.RunsLemmas.{all_after, halt_cut}
 use Rattle.journal.specs.declared.replay_halt.ReplayHalt.{ReplayHalt}
 use Rattle.journal.specs.declared.replay_halt.ReplayHalt.TheVariants.{Fenced, Failed, Stopped, Damaged}
@@ -121,12 +123,12 @@ front_law s volume tried rest l h split =
     let first : tried ≡ left_of (tried ++ rest) (length tried + 0) None = sym (append-nil tried) ∙ ap (λ (ws : List (ℕ × List ℕ)). tried ++ ws) (sym (none_left rest)) ∙ left_of-back tried rest 0 None in
     ap (λ (ws : List (ℕ × List ℕ)). replayed (written s ws)) (first ∙ ap (λ (ws : List (ℕ × List ℕ)). left_of ws (length tried + 0) None) (sym split)) ∙ stable s volume (length tried + 0) None l h
 
-pub replay_keeps : (s volume : List (List ℕ)) (p : PortState) (d : Disk) (f : ℕ) (r : Result (Unit {0}) ReplayHalt) (p' : PortState) (d' : Disk) (f' : ℕ) → Replays p d f r p' d' f' → d.sectors ≡ Some s → IsWhole s → replayed s ≡ Some volume → KeepsVolume volume r d'
+pub replay_keeps : (s volume : List (List ℕ)) (p : PortState) (d : Disk) (f : ℕ) (r : Result (Unit {0}) ReplayHalt) (p' : PortState) (d' : Disk) (f' : ℕ) → Replays p d f r p' d' f' → d.sectors ≡ Some s → length s ≡ 2596 → replayed s ≡ Some volume → KeepsVolume volume r d'
 replay_keeps s volume p d f (Ok done) p' d' f' a told whole h =
-    let x = a.told s told whole.count in
+    let x = a.told s told whole in
     let all : replay_writes s ≡ a.tried = x.split ∙ ap (λ (ws : List (ℕ × List ℕ)). a.tried ++ ws) x.whole ∙ append-nil a.tried in
-    let law = front_law s volume a.tried x.rest whole.count h x.split in
-    let shut : IsClosed (written s a.tried) = subst (λ (ws : List (ℕ × List ℕ)). IsClosed (written s ws)) all (closed_by (opens (sector s 1)) s whole.count refl) in
+    let law = front_law s volume a.tried x.rest whole h x.split in
+    let shut : IsClosed (written s a.tried) = subst (λ (ws : List (ℕ × List ℕ)). IsClosed (written s ws)) all (closed_by (opens (sector s 1)) s whole refl) in
     let both : Some (outside (written s a.tried)) ≡ Some volume = sym (replays_closed (written s a.tried) shut) ∙ law in
     let same : outside (written s a.tried) ≡ volume = cc in
     record {
@@ -137,12 +139,26 @@ replay_keeps s volume p d f (Ok done) p' d' f' a told whole h =
     }
 replay_keeps s volume p d f (Err (Fenced mine current)) p' d' f' a told whole h = keeps_same s volume (Fenced mine current) d d' told a.ends.1.unchanged h
 replay_keeps s volume p d f (Err Failed) p' d' f' a told whole h =
-    let x = a.told s told whole.count in
+    let x = a.told s told whole in
     elim a.ends.1 [
-      | inl y ↦ keeps_cut s volume a.tried x.rest _ Failed p d p' d' told whole.count h x.split y.makes
-      | inr y ↦ keeps_at s volume a.tried Failed d d' told (all_after a.tried p d p' d' y.0.makes) (front_law s volume a.tried x.rest whole.count h x.split)
+      | inl y ↦ keeps_cut s volume a.tried x.rest _ Failed p d p' d' told whole h x.split y.makes
+      | inr y ↦ keeps_at s volume a.tried Failed d d' told (all_after a.tried p d p' d' y.0.makes) (front_law s volume a.tried x.rest whole h x.split)
     ]
 replay_keeps s volume p d f (Err Stopped) p' d' f' a told whole h =
-    let x = a.told s told whole.count in
-    keeps_cut s volume a.tried x.rest _ Stopped p d p' d' told whole.count h x.split a.ends.1.makes
+    let x = a.told s told whole in
+    keeps_cut s volume a.tried x.rest _ Stopped p d p' d' told whole h x.split a.ends.1.makes
 replay_keeps s volume p d f (Err (Damaged at)) p' d' f' a told whole h = keeps_same s volume (Damaged at) d d' told a.ends.2.unchanged h
+
+same_count : (d d' : Disk) → d' ≡ d → KeepsCount d d'
+same_count d d' e = keeps_count d d' [] (e ∙ sym (after-nil d))
+
+-- a replay leaves as many sectors as there were
+pub replay_keeps_count : (p : PortState) (d : Disk) (f : ℕ) (r : Result (Unit {0}) ReplayHalt) (p' : PortState) (d' : Disk) (f' : ℕ) → Replays p d f r p' d' f' → KeepsCount d d'
+replay_keeps_count p d f (Ok done) p' d' f' a = run_keeps_count a.tried p d (Ok tt) p' d' a.ends.1.makes
+replay_keeps_count p d f (Err (Fenced mine current)) p' d' f' a = same_count d d' a.ends.1.unchanged
+replay_keeps_count p d f (Err Failed) p' d' f' a = elim a.ends.1 [
+  | inl y ↦ run_keeps_count a.tried p d (Err Portfailed) p' d' y.makes
+  | inr y ↦ run_keeps_count a.tried p d (Ok tt) p' d' y.0.makes
+]
+replay_keeps_count p d f (Err Stopped) p' d' f' a = run_keeps_count a.tried p d (Err Portstopped) p' d' a.ends.1.makes
+replay_keeps_count p d f (Err (Damaged at)) p' d' f' a = same_count d d' a.ends.2.unchanged

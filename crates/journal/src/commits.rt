@@ -1,9 +1,11 @@
 ghost use Rattle.std.specs.Prelude.{◌≡◌, ◌≤◌, ◌<◌, ◌+◌, ◌*◌, ◌∷◌, ℕ, List, Option, Some, length, OnOk, OnErr};
 ghost use Rattle.fence.specs.Writes.{Runs, IsCut};
-ghost use Rattle.shared_disk.specs.Disk.{after};
+ghost use Rattle.fence.specs.Endings.{EndsAs};
+ghost use Rattle.shared_disk.specs.Disk.{KeepsCount, after};
 ghost use Rattle.shared_disk.specs.Homes.{IsTransaction};
-ghost use Rattle.shared_disk.specs.Sectors.{IsWhole, left_of, cut};
+ghost use Rattle.shared_disk.specs.Sectors.{left_of, cut};
 ghost use Rattle.journal.specs.Layout.{header_of, contents_at};
+ghost use Rattle.journal.specs.Opened.{TellsOpening};
 ghost use Rattle.journal.specs.Commit.{commit_writes, IsClosed, IsBeforeOrAfter, IsCommitted, replayed, before_or_after};
 
 use crate::gate::write_gate;
@@ -15,16 +17,22 @@ use shared_disk::{PortDisk, Txn};
 
 /// Commits a transaction, for whose `2k + 3` writes there is room: the header, the contents, the open
 /// gate, the homes and the closed gate. It takes no memory. After a halt a replay leaves the volume
-/// with all homes exactly where a write of the call opened the gate, and else as it was.
+/// with all homes exactly where a write of the call opened the gate, and else as it was. A port that
+/// keeps all its writes tells which, unless the opening write itself failed.
 pub fn commit<D: PortDisk>(port: &mut Port, disk: &mut D, txn: &Txn) -> Result<(), PortHalt>
     requires { 2 * length txn.now + 3 ≤ (D.means disk.old).room }
     ensures runs { Runs port.old (D.means disk.old) (D.fault_count disk.old) (commit_writes txn.now) result port.new (D.means disk.new) (D.fault_count disk.new) }
     ensures ok { OnOk result (D.means disk.new ≡ after (D.means disk.old) (commit_writes txn.now)) }
     ensures halted { OnErr result (IsCut (D.means disk.old) (commit_writes txn.now) (D.means disk.new)) }
-    ensures replays { (sectors : List (List ℕ)) → (D.means disk.old).sectors ≡ Some sectors → IsWhole sectors → IsClosed sectors
+    ensures replays { (sectors : List (List ℕ)) → (D.means disk.old).sectors ≡ Some sectors → length sectors ≡ 2596 → IsClosed sectors
         → IsBeforeOrAfter sectors txn.now (D.means disk.old) (D.means disk.new) }
-    ensures committed { (sectors : List (List ℕ)) → (D.means disk.old).sectors ≡ Some sectors → IsWhole sectors → IsClosed sectors
+    ensures committed { (sectors : List (List ℕ)) → (D.means disk.old).sectors ≡ Some sectors → length sectors ≡ 2596 → IsClosed sectors
         → OnOk result (IsCommitted sectors txn.now (D.means disk.new)) }
+    ensures ends { EndsAs port.old (D.means disk.old) (commit_writes txn.now) result port.new (D.means disk.new) }
+    ensures opening { (sectors : List (List ℕ)) → (D.means disk.old).sectors ≡ Some sectors → length sectors ≡ 2596 → IsClosed sectors
+        → 2 * length txn.now + 3 ≤ port.old.kept.space
+        → TellsOpening sectors txn.now (length port.old.kept.writes) result port.new.kept.writes (D.means disk.new) }
+    ensures count { KeepsCount (D.means disk.old) (D.means disk.new) }
 {
     write_homes(port, disk, txn.homes())
 }
@@ -81,6 +89,6 @@ fn write_contents<D: PortDisk>(
 /// volume with all homes where one of them opened the gate, and else as it was.
 pub fn commit_is_atomic()
     ensures { (sectors : List (List ℕ)) (homes : List (ℕ × List ℕ)) (k : ℕ) (torn : Option (List ℕ))
-        → IsWhole sectors → IsClosed sectors → IsTransaction homes
+        → length sectors ≡ 2596 → IsClosed sectors → IsTransaction homes
         → replayed (cut sectors (commit_writes homes) k torn) ≡ Some (before_or_after sectors homes (left_of (commit_writes homes) k torn)) }
 {}

@@ -1,6 +1,7 @@
-ghost use Rattle.std.specs.Prelude.{◌≡◌, ◌≤◌, ◌<◌, ℕ, List, Option, Some, IfOk, IfErr, OnErr, true};
+ghost use Rattle.std.specs.Prelude.{◌≡◌, ◌≤◌, ◌<◌, ℕ, List, length, Option, Some, IfOk, IfErr, OnErr, true};
 ghost use Rattle.cal_base.specs.Faults.{Rose};
-ghost use Rattle.shared_disk.specs.Sectors.{IsWhole, cut};
+ghost use Rattle.shared_disk.specs.Disk.{KeepsCount};
+ghost use Rattle.shared_disk.specs.Sectors.{cut};
 ghost use Rattle.journal.specs.Commit.{replayed};
 ghost use Rattle.journal.specs.Layout.{opens, sector};
 ghost use Rattle.journal.specs.Replay.{replay_writes};
@@ -20,8 +21,9 @@ use shared_disk::PortDisk;
 pub fn replay<D: PortDisk>(port: &mut Port, disk: &mut D) -> Result<(), ReplayHalt>
     requires { 17 ≤ (D.means disk.old).room }
     ensures replays { Replays port.old (D.means disk.old) (D.fault_count disk.old) result port.new (D.means disk.new) (D.fault_count disk.new) }
-    ensures keeps { (sectors volume : List (List ℕ)) → (D.means disk.old).sectors ≡ Some sectors → IsWhole sectors → replayed sectors ≡ Some volume
+    ensures keeps { (sectors volume : List (List ℕ)) → (D.means disk.old).sectors ≡ Some sectors → length sectors ≡ 2596 → replayed sectors ≡ Some volume
         → KeepsVolume volume result (D.means disk.new) }
+    ensures count { KeepsCount (D.means disk.old) (D.means disk.new) }
 {
     replay_journal(port, disk)
 }
@@ -29,7 +31,7 @@ pub fn replay<D: PortDisk>(port: &mut Port, disk: &mut D) -> Result<(), ReplayHa
 /// Wherever the writes of a replay are cut, and whatever bytes a torn one leaves, a replay leaves the
 /// volume as it would have before.
 pub fn replay_is_stable()
-    ensures { (sectors volume : List (List ℕ)) (k : ℕ) (torn : Option (List ℕ)) → IsWhole sectors → replayed sectors ≡ Some volume
+    ensures { (sectors volume : List (List ℕ)) (k : ℕ) (torn : Option (List ℕ)) → length sectors ≡ 2596 → replayed sectors ≡ Some volume
         → replayed (cut sectors (replay_writes sectors) k torn) ≡ Some volume }
 {}
 

@@ -1,9 +1,22 @@
 -- The changes of a disk, one list after another.
 use Rattle.std.proofs.Common.{◌≡◌, ◌<◌, ◌+◌, ℕ, zero, suc, List, [], ◌∷◌, ◌++◌, length, Some, None, refl, ap, ◌∙◌, subst, arith, append_assoc, length-append}
-use Rattle.std.proofs.lemmas.List.{append-nil}
+use Rattle.std.specs.List.{slice_set}
+use Rattle.std.proofs.lemmas.List.{append-nil, length-set}
 use Rattle.std.specs.Prelude.{Option}
 use Rattle.shared_disk.specs.Sectors.{written, left_of}
-use Rattle.shared_disk.specs.Disk.{Disk, after, written_if_told}
+use Rattle.shared_disk.specs.Disk.{Disk, KeepsCount, after, written_if_told}
+
+-- a write changes a sector, and no count of them
+pub length-written : (writes : List (ℕ × List ℕ)) (s : List (List ℕ)) → length (written s writes) ≡ length s
+length-written [] s = refl
+length-written (w ∷ ws) s = length-written ws (slice_set s w.0 w.1) ∙ length-set s w.0 w.1
+
+pub keeps_count : (old new : Disk) (made : List (ℕ × List ℕ)) → new ≡ after old made → KeepsCount old new
+keeps_count old new made e = λ s told. record {
+  sectors = written s made;
+  told = ap (λ (d : Disk). d.sectors) e ∙ ap (λ (o : Option (List (List ℕ))). written_if_told o made) told;
+  count_is = length-written made s;
+}
 
 pub written-append : (s : List (List ℕ)) (xs ys : List (ℕ × List ℕ)) → written (written s xs) ys ≡ written s (xs ++ ys)
 written-append s [] ys = refl

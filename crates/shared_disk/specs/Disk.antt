@@ -78,3 +78,13 @@ pub record IsBlank (disk : Disk) : Type 0 where
 abbrev pub IsFencedOut : Disk → ℕ → DiskRefusal → Type 0
 IsFencedOut disk view (Fenced mine current) = MeetsOther disk view mine current
 IsFencedOut disk view Failed = ⊥
+
+-- a disk tells so many sectors
+pub record TellsSectors (disk : Disk) (count : ℕ) : Type 0 where
+  pub sectors : List (List ℕ)
+  pub told : disk.sectors ≡ Some sectors
+  pub count_is : length sectors ≡ count
+
+-- a disk that told its sectors tells as many
+abbrev pub KeepsCount : Disk → Disk → Type 0
+KeepsCount old new = (sectors : List (List ℕ)) → old.sectors ≡ Some sectors → TellsSectors new (length sectors)

@@ -1,10 +1,12 @@
-use Rattle.std.specs.Prelude.{◌≡◌, ◌+◌, ◌-◌, ◌^◌, ℕ, min, List, Contains}
-use Rattle.shared_disk.specs.Disk.{Disk}
+use Rattle.std.specs.Prelude.{◌≡◌, ◌+◌, ◌-◌, ◌^◌, ℕ, min, List, [], ◌∷◌, Contains, Option, Some, None}
+use Rattle.shared_disk.specs.Disk.{Disk, after}
 
--- a disk with listed faults: the disk, the numbers of the calls that fail, the calls and the faults so far
+-- a disk with listed faults: the disk, the numbers of the calls that fail, what a failing write leaves in
+-- its sector, if that is given, and the calls and the faults so far
 pub record FaultyDisk : Type 0 where
   pub disk : Disk
   pub fails : List ℕ
+  pub left : Option (List ℕ)
   pub calls : ℕ
   pub faults : ℕ
 
@@ -13,7 +15,20 @@ pub record IsFault (disk : FaultyDisk) (view : ℕ) : Type 0 where
   pub listed : Contains disk.fails disk.calls
   pub own : disk.disk.key ≡ view
 
--- one call more was counted, and the list of those that fail is as it was
+-- one call more was counted, and what is to fail, and how, is as it was
 pub record CountsCall (old new : FaultyDisk) : Type 0 where
   pub calls : new.calls ≡ min (old.calls + 1) (2 ^ 64 - 1)
   pub fails : new.fails ≡ old.fails
+  pub left : new.left ≡ old.left
+
+-- no call was counted, none failed, and what is to fail, and how, is as it was
+pub record CountsNothing (old new : FaultyDisk) : Type 0 where
+  pub calls : new.calls ≡ old.calls
+  pub faults : new.faults ≡ old.faults
+  pub fails : new.fails ≡ old.fails
+  pub left : new.left ≡ old.left
+
+-- a failing write left these bytes in its sector or, where none are given, the sectors as they were
+abbrev pub Leaves : Option (List ℕ) → Disk → ℕ → Disk → Type 0
+Leaves None old at new = new.sectors ≡ old.sectors
+Leaves (Some bytes) old at new = new ≡ after old ((at, bytes) ∷ [])

@@ -1,20 +1,26 @@
-//! The disk that both servers share: 2,596 sectors of 4,096 bytes under one key. A call under a view
-//! that isn't the key is refused and changes nothing; a fence raises the key; an acknowledged write is
-//! stable; a failed write leaves any bytes in its one sector. Disks in memory keep all of it, and one
-//! of them fails at listed calls. What a stop leaves of a sequence of writes is defined here too.
+//! The disk that both servers share: 2,596 sectors of 4,096 bytes under one key.
+//!
+//! - `PortDisk` is what every disk promises. A call under a view that isn't the key is refused and
+//!   changes nothing; a fence raises the key and never lowers it; an acknowledged write is stable; a
+//!   failed one leaves any bytes in its one sector. Room for writes is made by `reserve` beforehand.
+//! - `MemDisk` keeps everything in memory and never fails. `FaultDisk` fails at the calls that it is
+//!   given, and a write that fails leaves its sector or, made by `leaving`, bytes that are given.
+//! - `Txn` is a transaction: home sectors that ascend, each with what is to stand there.
+//! - `Stop` is where a server is to stop; `cut` in the specs is what that leaves of a list of writes.
+//!   The law `writes_keep_the_count` says that writes never change how many sectors there are.
 #![tactic(auto)]
 
 mod disk_refusal;
 mod fault_disk;
+mod law;
 mod mem_disk;
 mod port_disk;
 mod stop;
-#[cfg(test)]
-mod tests;
 mod txn;
 
 pub use disk_refusal::DiskRefusal;
 pub use fault_disk::FaultDisk;
+pub use law::writes_keep_the_count;
 pub use mem_disk::MemDisk;
 pub use port_disk::PortDisk;
 pub use stop::Stop;

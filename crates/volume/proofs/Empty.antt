@@ -9,8 +9,10 @@ use Rattle.std.proofs.lemmas.Option.{get_or_from_slice_get, slice_get_within}
 use Rattle.cal_base.specs.declared.identity.ClientId.{ClientId}
 use Rattle.cal_base.specs.declared.identity.Ino.{Ino}
 use Rattle.cal_fields.specs.Padded.{zeros}
-use Rattle.shared_disk.specs.Disk.{Disk}
-use Rattle.shared_disk.specs.Sectors.{IsWhole, written}
+use Rattle.shared_disk.specs.Disk.{Disk, KeepsCount}
+use Rattle.shared_disk.proofs.Changes.{length-written}
+use Rattle.fence.proofs.EndingLemmas.{run_keeps_count}
+use Rattle.shared_disk.specs.Sectors.{written}
 use Rattle.fence.specs.Port.{PortState}
 use Rattle.fence.specs.Writes.{Runs}
 use Rattle.fence.specs.declared.port_halt.PortHalt.{PortHalt}
@@ -20,7 +22,7 @@ use Rattle.inode.specs.Inode.{SpellsInode}
 use Rattle.inode.specs.declared.inode.Inode.{Inode}
 use Rattle.inode.specs.declared.inode.Kind.TheVariants.{Dir}
 use Rattle.inode.proofs.InodeLemmas.{small_zeros}
-use Rattle.journal.specs.Commit.{replayed}
+use Rattle.journal.specs.Commit.{IsClosed, replayed}
 use Rattle.journal.specs.Layout.{opens, outside, sector}
 use Rattle.journal.proofs.AfterCommit.{told_after}
 use Rattle.journal.proofs.Law.{replays_closed}
@@ -29,7 +31,7 @@ use Rattle.request_log.specs.declared.slot.Slot.{Slot}
 use Rattle.space_map.specs.SpaceMap.{SpellsMap}
 use Rattle.tree_law.specs.Tree.{empty_tree, first_nodes, is_purged, node_at, empty_directory}
 use Rattle.tree_law.specs.declared.node.Node.{Node}
-use Rattle.volume.specs.Format.{blank, format_writes, head_sector, root_inode}
+use Rattle.volume.specs.Format.{TellsFormatted, blank, format_writes, head_sector, root_inode}
 use Rattle.volume.specs.Head.{SpellsHead}
 use Rattle.volume.specs.Stands.{AreBlocksKept, Points, Stands, StandsForClient, StandsForDirectory, StandsForHistory, StandsForNode, TellsStanding}
 use Rattle.volume.specs.Volume.{Slots, SpellsDirectory, SpellsVolume, Volume}
@@ -194,9 +196,9 @@ unfolding zeros
 blank_closed = refl
 
 -- the first volume, of the sectors that a format leaves
-pub first_stands : (x : List (List ℕ)) (clients : ℕ) → IsWhole x → 1 ≤ clients → clients ≤ 16 → StandsForHistory (outside (written x (format_writes clients))) (first_volume clients) []
+pub first_stands : (x : List (List ℕ)) (clients : ℕ) → length x ≡ 2596 → 1 ≤ clients → clients ≤ 16 → StandsForHistory (outside (written x (format_writes clients))) (first_volume clients) []
 first_stands x clients whole some few =
-    let formats = format_gives x clients whole.count in
+    let formats = format_gives x clients whole in
     record {
       spells = volume_spelled clients (outside (written x (format_writes clients))) some few formats.fresh;
       nodes = λ number inode e. node_stands clients (outside (written x (format_writes clients))) number inode e;
@@ -204,10 +206,14 @@ first_stands x clients whole some few =
       clients = λ client slot e. client_stands client slot e;
     }
 
-pub format_replays : (x : List (List ℕ)) (clients : ℕ) → IsWhole x → replayed (written x (format_writes clients)) ≡ Some (outside (written x (format_writes clients)))
-format_replays x clients whole = replays_closed (written x (format_writes clients)) (ap opens (format_gives x clients whole.count).gate ∙ blank_closed)
+-- a format leaves the gate closed
+pub format_closes : (x : List (List ℕ)) (clients : ℕ) → length x ≡ 2596 → IsClosed (written x (format_writes clients))
+format_closes x clients long = ap opens (format_gives x clients long).gate ∙ blank_closed
 
-pub format_stands : (x : List (List ℕ)) (clients : ℕ) → IsWhole x → 1 ≤ clients → clients ≤ 16 → Stands (written x (format_writes clients)) []
+pub format_replays : (x : List (List ℕ)) (clients : ℕ) → length x ≡ 2596 → replayed (written x (format_writes clients)) ≡ Some (outside (written x (format_writes clients)))
+format_replays x clients whole = replays_closed (written x (format_writes clients)) (format_closes x clients whole)
+
+pub format_stands : (x : List (List ℕ)) (clients : ℕ) → length x ≡ 2596 → 1 ≤ clients → clients ≤ 16 → Stands (written x (format_writes clients)) []
 format_stands x clients whole some few = record {
   after = outside (written x (format_writes clients));
   replays = format_replays x clients whole;
@@ -217,10 +223,22 @@ format_stands x clients whole some few = record {
 
 -- a whole run of the format's writes
 pub run_stands : (x : List (List ℕ)) (clients : ℕ) (p : PortState) (d : Disk) (f : ℕ) (r : Result (Unit {0}) PortHalt) (p' : PortState) (d' : Disk) (f' : ℕ)
-    → Runs p d f (format_writes clients) r p' d' f' → d.sectors ≡ Some x → IsWhole x → 1 ≤ clients → clients ≤ 16 → OnOk r (TellsStanding d' [])
+    → Runs p d f (format_writes clients) r p' d' f' → d.sectors ≡ Some x → length x ≡ 2596 → 1 ≤ clients → clients ≤ 16 → OnOk r (TellsStanding d' [])
 run_stands x clients p d f (Ok done) p' d' f' a told whole some few = record {
   sectors = written x (format_writes clients);
   told = told_after x (format_writes clients) d d' told (all_after (format_writes clients) p d p' d' a.makes);
   stands = format_stands x clients whole some few;
 }
 run_stands x clients p d f (Err halt) p' d' f' a told whole some few = tt
+
+pub run_formatted : (x : List (List ℕ)) (clients : ℕ) (p : PortState) (d : Disk) (f : ℕ) (r : Result (Unit {0}) PortHalt) (p' : PortState) (d' : Disk) (f' : ℕ)
+    → Runs p d f (format_writes clients) r p' d' f' → d.sectors ≡ Some x → length x ≡ 2596 → OnOk r (TellsFormatted x clients d')
+run_formatted x clients p d f (Ok done) p' d' f' a told long = record {
+  told = told_after x (format_writes clients) d d' told (all_after (format_writes clients) p d p' d' a.makes);
+  closed = format_closes x clients long;
+  count = length-written (format_writes clients) x ∙ long;
+}
+run_formatted x clients p d f (Err halt) p' d' f' a told long = tt
+
+pub runs_keep_count : (ws : List (ℕ × List ℕ)) (p : PortState) (d : Disk) (f : ℕ) (r : Result (Unit {0}) PortHalt) (p' : PortState) (d' : Disk) (f' : ℕ) → Runs p d f ws r p' d' f' → KeepsCount d d'
+runs_keep_count ws p d f r p' d' f' a = run_keeps_count ws p d r p' d' a.makes

@@ -1,9 +1,12 @@
 -- The writes of a format, in order.
-use Rattle.std.specs.Prelude.{◌++◌, ◌∷◌, [], ℕ, zero, suc, true, List, replicate}
+use Rattle.std.specs.Prelude.{◌≡◌, ◌++◌, ◌∷◌, [], ℕ, zero, suc, true, List, length, replicate, Some}
 use Rattle.cal_fields.specs.Padded.{padded, zeros}
 use Rattle.inode.specs.Inode.{inode_fields}
 use Rattle.inode.specs.declared.inode.Inode.{Inode}
 use Rattle.inode.specs.declared.inode.Kind.TheVariants.{Dir}
+use Rattle.journal.specs.Commit.{IsClosed}
+use Rattle.shared_disk.specs.Disk.{Disk}
+use Rattle.shared_disk.specs.Sectors.{written}
 use Rattle.volume.specs.Head.{head_fields}
 
 -- a sector of zeros: the closed gate, the map where all blocks are free, the slot of a client that made
@@ -37,3 +40,9 @@ inode_writes = (36, root_sector) ∷ to_each 511 37 blank
 -- the writes of a format: what is free, the inodes, and last the head
 abbrev pub format_writes : ℕ → List (ℕ × List ℕ)
 format_writes clients = free_writes ++ (inode_writes ++ (0, head_sector clients) ∷ [])
+
+-- a disk tells the sectors that were there, with the writes of a format, and the gate is closed
+pub record TellsFormatted (before : List (List ℕ)) (clients : ℕ) (disk : Disk) : Type 0 where
+  pub told : disk.sectors ≡ Some (written before (format_writes clients))
+  pub closed : IsClosed (written before (format_writes clients))
+  pub count : length (written before (format_writes clients)) ≡ 2596

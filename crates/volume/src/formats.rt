@@ -1,7 +1,9 @@
 ghost use Rattle.std.specs.Prelude.{◌≡◌, ◌≤◌, [], ℕ, List, Some, length, OnOk};
 ghost use Rattle.fence.specs.Writes.{Runs};
-ghost use Rattle.shared_disk.specs.Sectors.{IsWhole, written};
-ghost use Rattle.volume.specs.Format.{format_writes};
+ghost use Rattle.journal.specs.Commit.{IsClosed};
+ghost use Rattle.shared_disk.specs.Disk.{KeepsCount};
+ghost use Rattle.shared_disk.specs.Sectors.{written};
+ghost use Rattle.volume.specs.Format.{TellsFormatted, format_writes};
 ghost use Rattle.volume.specs.Stands.{Stands, TellsStanding};
 
 use crate::writes::write_volume;
@@ -10,21 +12,25 @@ use shared_disk::PortDisk;
 
 /// Writes a volume for so many clients, 1 to 16, on which nothing has happened yet: the closed gate, the
 /// map, 16 slots, 512 inodes and last the head. There is room for these 531 writes. It takes no memory.
-/// After `Ok` the disk's sectors stand for the empty history.
+/// After `Ok` the disk's sectors stand for the empty history, and the gate is closed.
 pub fn format<D: PortDisk>(port: &mut Port, disk: &mut D, clients: u8) -> Result<(), PortHalt>
     requires some { 1 ≤ clients }
     requires few { clients ≤ 16 }
     requires room { 531 ≤ (D.means disk.old).room }
     ensures runs { Runs port.old (D.means disk.old) (D.fault_count disk.old) (format_writes clients) result port.new (D.means disk.new) (D.fault_count disk.new) }
-    ensures stands { (sectors : List (List ℕ)) → (D.means disk.old).sectors ≡ Some sectors → IsWhole sectors
+    ensures stands { (sectors : List (List ℕ)) → (D.means disk.old).sectors ≡ Some sectors → length sectors ≡ 2596
         → OnOk result (TellsStanding (D.means disk.new) []) }
+    ensures closed { (sectors : List (List ℕ)) → (D.means disk.old).sectors ≡ Some sectors → length sectors ≡ 2596
+        → OnOk result (TellsFormatted sectors clients (D.means disk.new)) }
+    ensures count { KeepsCount (D.means disk.old) (D.means disk.new) }
 {
     write_volume(port, disk, clients)
 }
 
-/// The sectors that a format leaves stand for the empty history.
+/// The sectors that a format leaves stand for the empty history, and their gate is closed.
 pub fn a_format_stands_for_no_history()
-    ensures { (sectors : List (List ℕ)) (clients : ℕ) → IsWhole sectors → 1 ≤ clients → clients ≤ 16
+    ensures closed { (sectors : List (List ℕ)) (clients : ℕ) → length sectors ≡ 2596 → IsClosed (written sectors (format_writes clients)) }
+    ensures stands { (sectors : List (List ℕ)) (clients : ℕ) → length sectors ≡ 2596 → 1 ≤ clients → clients ≤ 16
         → Stands (written sectors (format_writes clients)) [] }
 {}
 

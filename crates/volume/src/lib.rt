@@ -1,14 +1,18 @@
 //! The volume of the file system on the shared disk: its head, its format, and when its sectors stand
-//! for a history. A head is read exactly where it is in its grammar, and each count of clients has one
-//! spelling. The format writes a volume on which nothing has happened yet: a root directory without
-//! entries, and all else free.
+//! for a history of the file tree.
+//!
+//! - `read_head` answers the count of clients exactly where a sector is a head, and `write_head` is its
+//!   one spelling (`one_head`).
+//! - `format` writes a volume on which nothing has happened yet, the head last: a root directory without
+//!   entries, and all else free. Afterwards the sectors stand for the empty history and the gate is
+//!   closed (`a_format_stands_for_no_history`), in 531 writes (`a_format_is_531_writes`).
+//! - `Stands` in the specs says when sectors stand for a history; they spell one volume at most
+//!   (`one_volume`).
 #![tactic(auto)]
 
 mod formats;
 mod head;
 mod law;
-#[cfg(test)]
-mod tests;
 mod writes;
 
 pub use formats::{a_format_is_531_writes, a_format_stands_for_no_history, format};

@@ -15,10 +15,8 @@ use Rattle.std.proofs.lemmas.List.Sums.{position_or_len_is}
 use Rattle.std.proofs.lemmas.Option.{slice_get-get_or, slice_get_past}
 use Rattle.std.proofs.lemmas.Slice.Eq.{bytes_eq-Decides}
 use Rattle.cal_base.specs.declared.directory_entry.DirectoryEntry.{DirectoryEntry}
-use Rattle.client_cache.specs.ByName.{AscendByName, IsBefore}
-
-before-trans : {a b c : List ℕ} → IsBefore a b → IsBefore b c → IsBefore a c
-before-trans {a} {b} {c} p q = record { less = nat_list_cmp_total.trans a b c p.less q.less }
+use Rattle.tree_law.specs.Entries.{AscendByName, IsBefore}
+use Rattle.tree_law.proofs.EntryOrder.{before-trans}
 
 -- no name comes before itself
 before-apart : {a b : List ℕ} → IsBefore a b → a ≢ b
@@ -97,3 +95,7 @@ pub one_ascends : (old new : List DirectoryEntry) (entry : DirectoryEntry) → o
 one_ascends old new entry none more =
     let one : length new ≡ 1 = ap length (more ∙ ap (λ entries. entries ++ entry ∷ []) none) in
     record { ascending = λ i j other lower within. absurd (omega (arith, one)) }
+
+-- so do none
+pub none_ascend : AscendByName []
+none_ascend = record { ascending = λ i j other lower within. absurd (omega (arith, within)) }

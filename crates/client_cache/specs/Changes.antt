@@ -2,7 +2,7 @@
 use Rattle.std.specs.Prelude.{◌+◌, ◌++◌, ◌∷◌, ◌≤◌, ℕ, Bool, true, ⊤, not, nat_eq, find, filter, map, length, [], Option, Some, None, slice_set, if◌then◌else◌}
 use Rattle.cal_base.specs.declared.identity.Ino.{Ino}
 use Rattle.delayed_write.specs.Delayed.{clean, flush_of}
-use Rattle.token_kind.specs.Hold.{lesser_of}
+use Rattle.token_kind.specs.Hold.{hold_number, lesser_of}
 use Rattle.token_kind.specs.declared.«class».Class.{Class}
 use Rattle.token_kind.specs.declared.«class».Class.TheVariants.{Names, Data, Attr, Open}
 use Rattle.token_kind.specs.declared.content.Content.{Content}
@@ -13,7 +13,7 @@ use Rattle.token_kind.specs.declared.hold.Hold.{Hold}
 use Rattle.token_kind.specs.declared.hold.Hold.TheVariants.{None as Nothing, Read, Write}
 use Rattle.client_cache.specs.declared.cached_inode.CachedInode.{CachedInode}
 use Rattle.client_cache.specs.declared.flushes.Left.{Left}
-use Rattle.client_cache.specs.ByName.{AscendByName}
+use Rattle.tree_law.specs.Entries.{AreEntries}
 use Rattle.client_cache.specs.Holds.{hold_in, is_held, with_hold}
 use Rattle.client_cache.specs.Known.{Known, inode_at}
 
@@ -38,24 +38,33 @@ leaving Data hold flush = record { number = flush.number; ino = flush.ino; size 
 leaving Attr hold flush = record { number = flush.number; ino = flush.ino; size = flush.size; cut = flush.cut; leave_data = flush.leave_data; leave_attr = hold; pieces = flush.pieces }
 leaving Open hold flush = flush
 
--- a granted hold is left by the outstanding flush of its file
+-- a flush leaves another hold of a class, if it is of this file
 abbrev pub raised : Ino → Class → Hold → Flush → Flush
 raised ino cls hold flush = if nat_eq flush.ino.0 ino.0 then leaving cls hold flush else flush
 
+-- an item is taken: the granted hold is held, what came along is known, and the outstanding flush of the
+-- file, if there is one, leaves the granted hold too; a flush leaves at most Read
 abbrev pub after_take : Known → GrantItem → Known
 after_take known item = record {
   inodes = slice_set known.inodes item.ino.0 (granted (inode_at known item.ino) item.«class» item.hold item.content);
   table = known.table;
-  flushes = map (raised item.ino item.«class» item.hold) known.flushes;
+  flushes = map (raised item.ino item.«class» (lesser_of item.hold Read)) known.flushes;
   last_flush = known.last_flush;
 }
 
--- what may come with a grant: entries that ascend by name, bytes that a file may have, or their size
+-- what may come with a grant: entries that a directory may have, bytes that a file may have, or their size
 abbrev pub IsContent : Content → Type 0
 IsContent Empty = ⊤
-IsContent (Entries entries) = AscendByName entries
+IsContent (Entries entries) = AreEntries entries
 IsContent (Bytes bytes) = length bytes ≤ 262144
 IsContent (Size size) = size ≤ 262144
+
+-- a hold that a class can have: Write of Data and Attr alone
+abbrev pub IsHoldOf : Class → Hold → Type 0
+IsHoldOf Names hold = hold_number hold ≤ 1
+IsHoldOf Data hold = ⊤
+IsHoldOf Attr hold = ⊤
+IsHoldOf Open hold = hold_number hold ≤ 1
 
 -- without content come Open, and classes in which something is held
 abbrev pub is_expected : CachedInode → Class → Content → Bool
@@ -89,10 +98,14 @@ after_lower known ino cls to = record {
   last_flush = known.last_flush;
 }
 
--- a flush starts: it is outstanding from then on
+-- a file whose unflushed writes are all in a flush: nothing of it is unflushed
+abbrev pub cleaned : CachedInode → CachedInode
+cleaned inode = record { holds = inode.holds; entries = inode.entries; file = clean inode.file.contents; size = inode.size }
+
+-- a flush starts: it is outstanding from then on, and nothing of its file is unflushed
 abbrev pub after_start : Known → Flush → Known
 after_start known flush = record {
-  inodes = known.inodes;
+  inodes = slice_set known.inodes flush.ino.0 (cleaned (inode_at known flush.ino));
   table = known.table;
   flushes = known.flushes ++ flush ∷ [];
   last_flush = known.last_flush + 1;
@@ -108,10 +121,9 @@ is_numbered number flush = nat_eq flush.number number
 abbrev pub flush_numbered : Known → ℕ → Option Flush
 flush_numbered known number = find (is_numbered number) known.flushes
 
--- a file whose flush is done: nothing is unflushed, and the holds are what the flush left
+-- a file whose flush is done: the holds are what the flush left
 abbrev pub flushed_inode : Hold → Hold → CachedInode → CachedInode
-flushed_inode leave_data leave_attr inode =
-    left_with Attr leave_attr (left_with Data leave_data (record { holds = inode.holds; entries = inode.entries; file = clean inode.file.contents; size = inode.size }))
+flushed_inode leave_data leave_attr inode = left_with Attr leave_attr (left_with Data leave_data inode)
 
 -- what a flush leaves
 abbrev pub left_of : Flush → Left

@@ -1,8 +1,10 @@
-pub mod ByName
 pub mod Holds
 pub mod Known
+pub mod IsKnown
 pub mod Changes
 pub mod Covered
 pub mod AfterAnswer
+pub mod Next
 pub mod Reports
 pub mod Agrees
+pub mod Follows

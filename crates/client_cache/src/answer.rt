@@ -10,6 +10,7 @@ ghost use Rattle.cal_base.specs.declared.directory_entry.EntryKind.TheVariants.{
 ghost use Rattle.tree_law.specs.Tree.{least_unused};
 ghost use Rattle.client_cache.specs.AfterAnswer.{after_answer, with_change, with_descriptor, with_file, with_open};
 ghost use Rattle.client_cache.specs.Covered.{IsSpelled, are_met, is_answerable, is_end_met, is_met, target_of, truncate_room, write_room};
+ghost use Rattle.client_cache.specs.IsKnown.{IsCached, IsOpenFile, IsPlace};
 ghost use Rattle.client_cache.specs.Known.{inode_at, part_of};
 
 use crate::cache::Cache;
@@ -136,13 +137,14 @@ impl Cache {
         ensures reply { told_in (λ ino kind. opened_in fd kind) (resolved_in (part_of self.old) path.now) ≡ Some result }
         ensures state { self.new ≡ with_open self.old mode (Some fd) (target_of (resolved_in (part_of self.old) path.now)) }
     {
-        let at = self.resolve(path);
+        let at = self.place(path);
         self.open_at(fd, at, mode)
     }
 
     /// Opens the file where resolving ends.
     fn open_at(&mut self, fd: u8, at: Reached, mode: Mode) -> Reply
-        requires { is_end_met (is_met self.old) open_needs_in at ≡ true }
+        requires met { is_end_met (is_met self.old) open_needs_in at ≡ true }
+        requires bound { IsPlace at }
         ensures reply { told_in (λ ino kind. opened_in fd kind) at ≡ Some result }
         ensures state { self.new ≡ with_open self.old mode (Some fd) (target_of at) }
     {
@@ -168,6 +170,7 @@ impl Cache {
 
     /// Makes a descriptor stand for something else, or for nothing.
     fn put_descriptor(&mut self, fd: u8, descriptor: Option<Descriptor>)
+        requires { IsOpenFile descriptor }
         ensures { self.new ≡ with_descriptor self.old fd descriptor }
     {
         if fd < DESCRIPTORS {
@@ -271,12 +274,14 @@ impl CachedInode {
     }
 
     /// Writes bytes to the file.
+    #[tactic(auto, using(crate::proofs::KnownLemmas::written_cached))]
     fn write(&mut self, offset: u32, bytes: &[u8]) -> Result<(), Oom>
         requires some { 1 ≤ length bytes.now }
         requires few { length bytes.now ≤ 32768 }
         requires end { offset + length bytes.now ≤ 262144 }
         requires marks { marked_count (marked_by_write self.old.file.marks offset (length bytes.now)) ≤ 16 }
         ensures ok { OnOk result (self.new ≡ with_file self.old (after_write self.old.file offset bytes.now)) }
+        ensures cached { IsCached self.old → IsCached self.new }
         ensures err { OnErr result (self.new ≡ self.old) }
     {
         self.file.write(offset, bytes)?;
@@ -285,10 +290,12 @@ impl CachedInode {
     }
 
     /// Sets the size of the file in bytes.
+    #[tactic(auto, using(crate::proofs::KnownLemmas::written_cached))]
     fn truncate(&mut self, size: u32) -> Result<(), Oom>
         requires size { size ≤ 262144 }
         requires marks { marked_count (marked_by_truncate self.old.file.marks (length self.old.file.contents) size) ≤ 16 }
         ensures ok { OnOk result (self.new ≡ with_file self.old (after_truncate self.old.file size)) }
+        ensures cached { IsCached self.old → IsCached self.new }
         ensures err { OnErr result (self.new ≡ self.old) }
     {
         self.file.truncate(size)?;

@@ -1,7 +1,8 @@
-ghost use Rattle.std.specs.Prelude.{◌≡◌, ◌<◌, ◌≤◌, IfOk, OnOk, OnErr, List, [], Option, Some, None, true, false, not, map, replicate, option_map, slice_index_or};
+ghost use Rattle.std.specs.Prelude.{◌≡◌, ◌<◌, ◌≤◌, IfOk, IfSome, OnOk, OnErr, List, [], Option, Some, None, true, false, not, map, replicate, option_map, slice_index_or};
 ghost use Rattle.client_cache.specs.Holds.{hold_in};
+ghost use Rattle.client_cache.specs.IsKnown.{IsKnown, IsOpenFile};
 ghost use Rattle.client_cache.specs.Known.{first_known, flush_at, inode_at, is_settled, nothing_known};
-ghost use Rattle.client_cache.specs.Changes.{IsContent, after_lower, after_take, is_expected, leaving, raised};
+ghost use Rattle.client_cache.specs.Changes.{IsContent, IsHoldOf, after_lower, after_take, is_expected, leaving, raised};
 
 use crate::cached_inode::CachedInode;
 use cal_base::{DESCRIPTORS, INODES, Ino, Oom};
@@ -21,21 +22,22 @@ pub struct Cache {
 }
 
 impl Model for Cache {
-    ghost use Rattle.std.specs.Prelude.{◌≡◌, length};
+    ghost use Rattle.client_cache.specs.IsKnown.{IsKnown};
     ghost use Rattle.client_cache.specs.Known.{Known};
 
     ghost Value = { Known };
 
     ghost view = { λ cache. record { inodes = cache.inodes.items; table = cache.table.items; flushes = cache.flushes.items; last_flush = cache.last_flush } };
 
-    ghost invariant = { λ cache. (length cache.inodes.items ≡ 512) × (length cache.table.items ≡ 32) };
+    ghost invariant = { λ cache. IsKnown (record { inodes = cache.inodes.items; table = cache.table.items; flushes = cache.flushes.items; last_flush = cache.last_flush }) };
 }
 
 impl Cache {
     /// Nothing is held, no descriptor is in use, and no flush was made.
     #[tactic(auto, unfolding(crate::specs::Known::first_known))]
     pub fn new(alloc: Global) -> Result<Cache, Oom>
-        ensures { IfOk result (λ cache. cache ≡ first_known) }
+        ensures value { IfOk result (λ cache. cache ≡ first_known) }
+        ensures known { IfOk result IsKnown }
     {
         let inodes = unknown_inodes(alloc)?;
         let table = vec![in alloc; None; DESCRIPTORS as usize]?;
@@ -48,7 +50,7 @@ impl Cache {
     }
 
     /// What is held of an inode in a class.
-    pub(crate) fn held(&self, ino: Ino, class: Class) -> Hold
+    pub fn held(&self, ino: Ino, class: Class) -> Hold
         ensures { result ≡ hold_in (inode_at self.now ino).holds class }
     {
         match self.inodes.get(ino.0 as usize) {
@@ -57,8 +59,7 @@ impl Cache {
         }
     }
 
-    /// Whether something of the file was written or truncated and isn't flushed yet; also while a flush
-    /// of it is outstanding.
+    /// Whether something of the file was written or truncated since its last flush was started.
     pub fn unflushed(&self, ino: Ino) -> bool
         ensures { result ≡ (inode_at self.now ino).file.unflushed }
     {
@@ -84,7 +85,8 @@ impl Cache {
 
     /// The file behind a descriptor; none exactly where that isn't open.
     pub fn behind(&self, fd: u8) -> Option<Ino>
-        ensures { result ≡ option_map (λ descriptor. descriptor.ino) (slice_index_or self.now.table fd None) }
+        ensures value { result ≡ option_map (λ descriptor. descriptor.ino) (slice_index_or self.now.table fd None) }
+        ensures bound { IfSome result (λ ino. ino.0 < 512) }
     {
         match self.descriptor(fd) {
             Some(descriptor) => Some(descriptor.ino),
@@ -94,7 +96,8 @@ impl Cache {
 
     /// What a descriptor stands for, if it is open.
     pub(crate) fn descriptor(&self, fd: u8) -> Option<Descriptor>
-        ensures { result ≡ slice_index_or self.now.table fd None }
+        ensures value { result ≡ slice_index_or self.now.table fd None }
+        ensures bound { IsOpenFile result }
     {
         match self.table.get(usize::from(fd)) {
             Some(place) => *place,
@@ -103,12 +106,14 @@ impl Cache {
     }
 
     /// Takes an item of a grant: its hold is that of its class, and what came along is known. Where a
-    /// flush of the file is outstanding, it leaves the granted hold too: a server that serves the call
-    /// before it takes the flush again counts on the hold, which would otherwise be lost as the flush is
-    /// done. Entries that come along strictly ascend by name, as a message spells them. An item without
-    /// content is of a class in which something is held, or of Open. It takes no memory.
+    /// flush of the file is outstanding, it leaves the granted hold too, at most Read: a server that serves
+    /// the call before it takes the flush again counts on the hold, which would otherwise be lost as the
+    /// flush is done. The item is one that a message spells: Write is of Data and Attr alone, and entries
+    /// that come along are of the volume and strictly ascend by name. An item without content is of a class
+    /// in which something is held, or of Open. It takes no memory.
     pub fn take(&mut self, item: GrantItem)
         requires ino { item.ino.0 < 512 }
+        requires hold { IsHoldOf item.class item.hold }
         requires content { IsContent item.content }
         requires expected { is_expected (inode_at self.old item.ino) item.class item.content ≡ true }
         ensures { self.new ≡ after_take self.old item }
@@ -121,7 +126,7 @@ impl Cache {
             content,
         } = item;
         self.inodes[ino.0 as usize].grant(class, hold, content);
-        raise(&mut self.flushes, ino, class, hold);
+        raise_all(&mut self.flushes, ino, class, hold.lesser(Hold::Read));
     }
 
     /// Lowers a hold to the lesser of what it is and another. What is no longer held is forgotten, and
@@ -148,6 +153,12 @@ fn unknown_inodes(alloc: Global) -> Result<Vec<CachedInode>, Oom>
 }
 
 /// Makes the outstanding flush of a file leave a granted hold.
+fn raise_all(flushes: &mut Vec<Flush>, ino: Ino, class: Class, hold: Hold)
+    ensures { flushes.new.items ≡ map (raised ino class hold) flushes.old.items }
+{
+    raise(flushes, ino, class, hold);
+}
+
 fn raise(flushes: &mut [Flush], ino: Ino, class: Class, hold: Hold)
     ensures { flushes.new ≡ map (raised ino class hold) flushes.old }
 {

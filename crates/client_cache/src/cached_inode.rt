@@ -1,7 +1,7 @@
 ghost use Rattle.std.specs.Prelude.{◌≡◌};
 ghost use Rattle.token_kind.specs.declared.«class».Class.TheVariants.{Attr, Data};
 ghost use Rattle.client_cache.specs.Known.{nothing_known};
-ghost use Rattle.client_cache.specs.Changes.{IsContent, flushed_inode, forgotten, granted, holding, left_with, lowered, with_content};
+ghost use Rattle.client_cache.specs.Changes.{IsContent, cleaned, flushed_inode, forgotten, granted, holding, left_with, lowered, with_content};
 
 use crate::entries::Entries;
 use crate::holds::Holds;
@@ -63,11 +63,17 @@ impl CachedInode {
         self.leave(alloc, class, left);
     }
 
-    /// Takes what was written as flushed, with the holds that the flush leaves.
+    /// Takes what was unflushed as handed to a flush.
+    pub(crate) fn clean(&mut self)
+        ensures { self.new ≡ cleaned self.old }
+    {
+        self.file.flushed();
+    }
+
+    /// Makes the holds of a file's bytes and size what its flush leaves.
     pub(crate) fn flushed(&mut self, alloc: Global, leave_data: Hold, leave_attr: Hold)
         ensures { self.new ≡ flushed_inode leave_data leave_attr self.old }
     {
-        self.file.flushed();
         self.leave(alloc, Class::Data, leave_data);
         self.leave(alloc, Class::Attr, leave_attr);
     }

@@ -153,7 +153,7 @@ impl Cache {
     }
 
     /// Whether at most 16 blocks are unflushed after a write that isn't refused.
-    fn write_room(&self, fd: u8, offset: u64, len: usize) -> bool
+    pub(crate) fn write_room(&self, fd: u8, offset: u64, len: usize) -> bool
         requires { len ≤ 32768 }
         ensures { result ≡ write_room self.now offset len (within_limit (offset + len) (writable self.now.table fd)) }
     {
@@ -177,7 +177,7 @@ impl Cache {
     }
 
     /// Whether at most 16 blocks are unflushed after a truncate that isn't refused.
-    fn truncate_room(&self, fd: u8, size: u64) -> bool
+    pub(crate) fn truncate_room(&self, fd: u8, size: u64) -> bool
         ensures { result ≡ truncate_room self.now size (within_limit size (writable self.now.table fd)) }
     {
         match self.truncate_place(fd, size) {

@@ -2,7 +2,7 @@ ghost use Rattle.std.specs.Prelude.{◌≡◌, length, [], find, nat_eq, option_
 ghost use Rattle.std.specs.Ordering.{nat_cmp};
 ghost use Rattle.std.specs.Cmp.Lexicographic.{pointwise, slice_cmp};
 ghost use Rattle.std.specs.List.Sorted.{IsBinarySearchResult, IsSearchInRange};
-ghost use Rattle.client_cache.specs.ByName.{AscendByName};
+ghost use Rattle.tree_law.specs.Entries.{AscendByName};
 
 use cal_base::{Blob, DirectoryEntry, EntryList};
 use std::alloc::Global;
@@ -18,7 +18,7 @@ pub struct Entries {
 impl Model for Entries {
     ghost use Rattle.std.specs.Prelude.{List};
     ghost use Rattle.cal_base.specs.declared.directory_entry.DirectoryEntry.{DirectoryEntry};
-    ghost use Rattle.client_cache.specs.ByName.{AscendByName};
+    ghost use Rattle.tree_law.specs.Entries.{AscendByName};
 
     ghost Value = { List DirectoryEntry };
 

@@ -1,7 +1,8 @@
-ghost use Rattle.std.specs.Prelude.{◌≡◌, ◌≤◌, ◌<◌, ◌-◌, ◌^◌, ◌++◌, true, false, not, filter, find, option_map, IfOk, OnOk, OnErr};
+ghost use Rattle.std.specs.Prelude.{◌≡◌, ◌≤◌, ◌<◌, ◌-◌, ◌^◌, ◌++◌, true, false, not, filter, find, option_map, IfOk, IfSome, OnOk, OnErr};
 ghost use Rattle.token_kind.specs.Flush.{IsFlush};
 ghost use Rattle.token_kind.specs.Hold.{hold_number};
 ghost use Rattle.client_cache.specs.Changes.{after_flushed, after_start, flush_left, flush_numbered, is_numbered, left_of, new_flush};
+ghost use Rattle.client_cache.specs.IsKnown.{IsKnown};
 ghost use Rattle.client_cache.specs.Known.{inode_at, is_settled};
 ghost use Rattle.client_cache.specs.Reports.{flush_leaves, flush_number, reported, reported_at, reported_below, reports};
 
@@ -13,56 +14,57 @@ use token_kind::{Class, Flush, Hold, Reported, ReportedList, Token};
 impl Cache {
     /// Starts a flush of a file that is unflushed and of which no flush is outstanding. The flush has
     /// the number after that of the last one, from 1; it leaves Read or none of Data and Attr. From now
-    /// on it is outstanding, and it is that record each time it is sent; only what it leaves may be
-    /// raised, by a grant that is taken before it is done. There are numbers for 2^64 - 1 flushes. After
-    /// want of memory all is as it was.
-    pub fn start_flush(
-        &mut self,
-        ino: Ino,
-        leave_data: Hold,
-        leave_attr: Hold,
-    ) -> Result<Flush, Oom>
+    /// on it is the last of the outstanding ones, and it is that record each time it is sent; only what it
+    /// leaves may be raised, by a grant that is taken before it is done. Nothing of the file is unflushed
+    /// any more. There are numbers for 2^64 - 1 flushes. After want of memory all is as it was.
+    pub fn start_flush(&mut self, ino: Ino, leave_data: Hold, leave_attr: Hold) -> Result<(), Oom>
         requires ino { ino.0 < 512 }
         requires number { self.old.last_flush < 2 ^ 64 - 1 }
         requires unflushed { (inode_at self.old ino).file.unflushed ≡ true }
         requires settled { is_settled self.old ino ≡ true }
         requires leave_data { hold_number leave_data ≤ 1 }
         requires leave_attr { hold_number leave_attr ≤ 1 }
-        ensures flush { IfOk result (λ flush. flush ≡ new_flush self.old ino leave_data leave_attr) }
-        ensures grammar { IfOk result IsFlush }
+        ensures grammar { OnOk result (IsFlush (new_flush self.old ino leave_data leave_attr)) }
         ensures state { OnOk result (self.new ≡ after_start self.old (new_flush self.old ino leave_data leave_attr)) }
         ensures err { OnErr result (self.new ≡ self.old) }
     {
         let number = self.last_flush + 1;
         let file = &self.inodes[ino.0 as usize].file;
         let flush = file.to_flush(ino, leave_data, leave_attr, number)?;
-        let kept = file.to_flush(ino, leave_data, leave_attr, number)?;
-        self.flushes.push(kept)?;
+        // What may want for memory comes before the first change of the file.
+        self.flushes.push(flush)?;
+        self.inodes[ino.0 as usize].clean();
         self.last_flush = number;
-        Ok(flush)
+        Ok(())
     }
 
     /// The number of the last flush that was started, 0 before the first.
     pub fn last_flush(&self) -> u64
-        ensures { result ≡ self.now.last_flush }
+        ensures value { result ≡ self.now.last_flush }
+        ensures known { IsKnown self.now }
     {
         self.last_flush
     }
 
-    /// The outstanding flushes, in the order of their numbers, as they are to be sent again.
+    /// The outstanding flushes, in the order of their numbers, as they are to be sent again: each is one
+    /// that a message spells, and at most one is of a file.
     pub fn outstanding(&self) -> &[Flush]
-        ensures { result.now ≡ self.now.flushes }
+        ensures value { result.now ≡ self.now.flushes }
+        ensures known { IsKnown self.now }
     {
         &self.flushes
     }
 
-    /// Takes the outstanding flush with this number as done: nothing of its file is unflushed any more,
-    /// and the holds become what it left. The file; none exactly where no outstanding flush has that
-    /// number, and then nothing changes. It takes no memory.
+    /// Takes the outstanding flush with this number as done: the holds of its file's bytes and size become
+    /// what it left. The file; none exactly where no outstanding flush has that number, and then nothing
+    /// changes. It takes no memory.
     pub fn flushed(&mut self, number: u64) -> Option<Ino>
         ensures file { result ≡ option_map (λ flush. flush.ino) (flush_numbered self.old number) }
+        ensures bound { IfSome result (λ ino. ino.0 < 512) }
         ensures state { self.new ≡ after_flushed self.old number }
     {
+        // An outstanding flush is of the volume: that is kept by the type, and told here.
+        let _ = &self.flushes;
         match self.left_by(number) {
             Some(left) => {
                 self.settle(number, left);
@@ -92,14 +94,14 @@ impl Cache {
         self.flushes.iter().find(|flush| flush.number == number)
     }
 
+    /// Drops an outstanding flush, and makes the holds what it left.
     fn settle(&mut self, number: u64, left: Left)
+        requires { left.ino.0 < 512 }
         ensures { self.new ≡ flush_left self.old number left }
     {
         let alloc = *self.inodes.allocator();
         drop_flush(&mut self.flushes, number);
-        if (left.ino.0 as usize) < INODES {
-            self.inodes[left.ino.0 as usize].flushed(alloc, left.leave_data, left.leave_attr);
-        }
+        self.inodes[left.ino.0 as usize].flushed(alloc, left.leave_data, left.leave_attr);
     }
 
     /// All holds, by inode, then class. Data and Attr of a file with an outstanding flush are as they

@@ -4,6 +4,7 @@ ghost use Rattle.tree_law.specs.Descriptors.{opened, readable, reads, within_lim
 ghost use Rattle.tree_law.specs.Part.{found_in, looked_up_in, place_of, resolved_in, root_place, stepped_in, walked_in};
 ghost use Rattle.tree_law.specs.Tree.{least_unused};
 ghost use Rattle.client_cache.specs.Covered.{file_of, target_of};
+ghost use Rattle.client_cache.specs.IsKnown.{IsPlace};
 ghost use Rattle.client_cache.specs.Known.{part_of};
 
 use crate::cache::Cache;
@@ -20,14 +21,25 @@ impl Cache {
     /// The file at which resolving ends; none exactly where a Names that resolving needs isn't held, or
     /// it ends at no file.
     pub fn target(&self, path: &Path) -> Option<Ino>
-        ensures { result ≡ target_of (resolved_in (part_of self.now) path.now) }
+        ensures value { result ≡ target_of (resolved_in (part_of self.now) path.now) }
+        ensures bound { IfSome result (λ ino. ino.0 < 512) }
     {
-        match self.resolve(path.names()) {
+        match self.place(path.names()) {
             Some(Ok((ino, EntryKind::File))) => Some(ino),
             Some(Ok((_, EntryKind::Directory))) => None,
             Some(Err(_)) => None,
             None => None,
         }
+    }
+
+    /// What a path names, as far as the held entries tell: an inode of the volume.
+    pub(crate) fn place(&self, path: &[Blob]) -> Reached
+        ensures value { result ≡ resolved_in (part_of self.now) path.now }
+        ensures bound { IsPlace result }
+    {
+        // That held entries are of the volume is kept by the type, and told where a field is used.
+        let _ = &self.inodes;
+        self.resolve(path)
     }
 
     /// What a path names, as far as the held entries tell.

@@ -3,7 +3,7 @@ ghost use Rattle.token_kind.specs.Flush.{IsFlush, IsFlushed};
 ghost use Rattle.token_kind.specs.Hold.{hold_number};
 ghost use Rattle.file_bytes.specs.Bytes.{read_at};
 ghost use Rattle.delayed_write.specs.Marks.{marked_by_truncate, marked_by_write, marked_count};
-ghost use Rattle.delayed_write.specs.Delayed.{Turns, after_truncate, after_write, clean, flush_of};
+ghost use Rattle.delayed_write.specs.Delayed.{IsDelayed, Turns, after_truncate, after_write, clean, flush_of};
 
 use crate::marks;
 use crate::pieces::pieces;
@@ -86,6 +86,7 @@ impl Delayed {
         requires end { offset + length bytes.now ≤ 262144 }
         requires marks { marked_count (marked_by_write self.old.marks offset (length bytes.now)) ≤ 16 }
         ensures ok { OnOk result (self.new ≡ after_write self.old offset bytes.now) }
+        ensures limits { OnOk result (IsDelayed self.new) }
         ensures turns { OnOk result ((kept : List ℕ) → Turns kept self.old → Turns kept self.new) }
         ensures err { OnErr result (self.new ≡ self.old) }
     {
@@ -101,6 +102,7 @@ impl Delayed {
         requires size { size ≤ 262144 }
         requires marks { marked_count (marked_by_truncate self.old.marks (length self.old.contents) size) ≤ 16 }
         ensures ok { OnOk result (self.new ≡ after_truncate self.old size) }
+        ensures limits { OnOk result (IsDelayed self.new) }
         ensures turns { OnOk result ((kept : List ℕ) → Turns kept self.old → Turns kept self.new) }
         ensures err { OnErr result (self.new ≡ self.old) }
     {
@@ -167,7 +169,8 @@ impl Delayed {
         })
     }
 
-    /// Takes the present contents as those that the server keeps: nothing is unflushed, nothing marked.
+    /// Takes the present contents as those that the server keeps, or gets by the flush that was made of
+    /// them: nothing is unflushed, nothing marked.
     pub fn flushed(&mut self)
         ensures value { self.new ≡ clean self.old.contents }
         ensures turns { Turns self.new.contents self.new }

@@ -5,5 +5,7 @@ use Rattle.client_cache.proofs.Walks.{met_path}
 use Rattle.client_cache.proofs.cache.Cache.open_as.Goals as goal
 
 pub open_at-requires : goal.open_at-requires
-open_at-requires c =
-    ap (is_end_met (is_met c.args.self.now) open_needs_in) c.resolve-at.ensures ∙ met_path c.args.self.now open_needs_in c.args.path.now ∙ c.requires
+open_at-requires c = record {
+  met = ap (is_end_met (is_met c.args.self.now) open_needs_in) c.place-at.ensures.value ∙ met_path c.args.self.now open_needs_in c.args.path.now ∙ c.requires;
+  bound = c.place-at.ensures.bound;
+}

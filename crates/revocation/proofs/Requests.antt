@@ -1,7 +1,8 @@
-use Rattle.std.proofs.Common.{◌≡◌, List, [], ◌∷◌, ◌++◌, drop, Bool, true, false, ◌||◌, cond, filter, refl, ◌∙◌, true≢false, rules}
+use Rattle.std.proofs.Common.{◌≡◌, arith, List, [], ◌∷◌, ◌++◌, drop, Bool, true, false, ◌||◌, cond, filter, refl, ◌∙◌, true≢false, rules}
 use Rattle.std.specs.List.{IsDistinct, AllByRecursion, list_any}
 use Rattle.tree_law.specs.declared.request.Request.{Request}
-use Rattle.revocation.specs.Waiting.{same_request}
+use Rattle.std.proofs.lemmas.List.Elements.{All-filter, All-drop, All-push}
+use Rattle.revocation.specs.Waiting.{same_request, IsRequest, IsLine}
 
 module _ {X : Type 0} (e : X → X → Bool) where
   pub distinct-nil : IsDistinct e []
@@ -56,6 +57,18 @@ module _ {X : Type 0} (e : X → X → Bool) where
 same_request-flips : (a b : Request) → same_request a b ≡ same_request b a
 same_request-flips a b = search rules
 
+-- a line of no requests
+pub line_empty : IsLine []
+line_empty = record { once = distinct-nil same_request; each = λ k d lt. absurd (omega arith) }
+
+-- a line whose head is taken
+pub line_rest : (requests : List Request) → IsLine requests → IsLine (drop 1 requests)
+line_rest requests line = record { once = distinct-rest same_request requests line.once; each = All-drop IsRequest 1 requests line.each }
+
+-- a line of which some requests stay
+pub line_filter : (p : Request → Bool) (requests : List Request) → IsLine requests → IsLine (filter p requests)
+line_filter p requests line = record { once = distinct-filter same_request p requests line.once; each = All-filter p IsRequest requests line.each }
+
 -- a request that doesn't stand in line may be put at the end
-pub queue_keeps : (requests : List Request) (r : Request) → IsDistinct same_request requests → list_any (same_request r) requests ≡ false → IsDistinct same_request (requests ++ r ∷ [])
-queue_keeps requests r h none = distinct-push same_request same_request-flips requests r h none
+pub line_push : (requests : List Request) (r : Request) → IsLine requests → IsRequest r → list_any (same_request r) requests ≡ false → IsLine (requests ++ r ∷ [])
+line_push requests r line is none = record { once = distinct-push same_request same_request-flips requests r line.once none; each = All-push IsRequest requests r line.each is }

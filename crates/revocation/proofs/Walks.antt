@@ -1,4 +1,4 @@
-use Rattle.std.proofs.Common.{◌≡◌, ℕ, ◌+◌, ◌<◌, List, ◌++◌, length, take, get_or, Option, sym, ap, ◌∙◌}
+use Rattle.std.proofs.Common.{◌≡◌, ℕ, ◌+◌, ◌<◌, List, ◌++◌, length, take, get_or, Option, sym, ap, ◌∙◌, append_assoc}
 use Rattle.std.specs.List.{filter_map}
 use Rattle.std.specs.Option.{option_to_list}
 use Rattle.std.proofs.lemmas.List.{take_more}
@@ -15,6 +15,13 @@ pub gathers_next : {X Y : Type 0} (f : X → Option Y) (xs : List X) (i : ℕ) (
 gathers_next f xs i d old new o within e one step =
     step ∙ ap (λ ys. ys ++ option_to_list o) e ∙ ap (λ p. filter_map f (take i xs) ++ option_to_list p) one
     ∙ sym (filter_map-push f (take i xs) (get_or xs i d)) ∙ ap (filter_map f) (sym (take_more xs i d within))
+
+-- the same behind other items
+pub gathers_behind : {X Y : Type 0} (f : X → Option Y) (xs : List X) (i : ℕ) (d : X) (base old new : List Y) → i < length xs
+    → old ≡ base ++ filter_map f (take i xs) → new ≡ old ++ option_to_list (f (get_or xs i d)) → new ≡ base ++ filter_map f (take (i + 1) xs)
+gathers_behind f xs i d base old new within e step =
+    step ∙ ap (λ ys. ys ++ option_to_list (f (get_or xs i d))) e ∙ append_assoc base (filter_map f (take i xs)) (option_to_list (f (get_or xs i d)))
+    ∙ ap (λ ys. base ++ ys) (sym (filter_map-push f (take i xs) (get_or xs i d)) ∙ ap (filter_map f) (sym (take_more xs i d within)))
 
 -- what is asked once one blocker more is asked
 pub asked_more : (asked : List (HoldKey × Hold)) (bs : List Blocker) (i : ℕ) (d : Blocker) (old new : Option Hold) (q : HoldKey) → i < length bs

@@ -1,12 +1,21 @@
-use Rattle.std.specs.Prelude.{◌≡◌, List, ◌∷◌, [], ◌++◌, Bool, ◌&&◌, not, nat_eq, nat_le, filter, Option, Some, None, if◌then◌else◌}
-use Rattle.std.specs.List.{list_any}
+use Rattle.std.specs.Prelude.{◌≡◌, ◌<◌, ◌≤◌, true, false, All, List, ◌∷◌, [], ◌++◌, Bool, ◌&&◌, not, nat_eq, nat_le, filter, Option, Some, None, if◌then◌else◌}
+use Rattle.std.specs.List.{list_any, filter_map, IsDistinct}
 use Rattle.std.specs.Map.{lookup}
 use Rattle.cal_base.specs.declared.identity.ClientId.{ClientId}
 use Rattle.token_kind.specs.Hold.{hold_number}
 use Rattle.token_kind.specs.declared.hold.Hold.{Hold}
 use Rattle.token_table.specs.Table.{same_client, same_key}
 use Rattle.token_table.specs.declared.hold_key.HoldKey.{HoldKey}
+use Rattle.token_kind.specs.declared.blocker.Blocker.{Blocker}
+use Rattle.token_kind.specs.declared.token.Token.{Token}
+use Rattle.token_table.specs.Table.{key_of}
+use Rattle.tree_law.specs.declared.call.Call.{Call}
+use Rattle.tree_law.specs.declared.call.Call.TheVariants.{Create, Mkdir, Unlink, Rmdir, Rename, Open as OpenCall, Close, Read as ReadCall, Write as WriteCall, Truncate, Stat as StatCall, Readdir as ReaddirCall, Fsync}
+use Rattle.tree_law.specs.declared.request.Asked.{Asked}
+use Rattle.tree_law.specs.declared.request.Asked.TheVariants.{Want as Wants, Change}
 use Rattle.tree_law.specs.declared.request.Request.{Request}
+use Rattle.tree_law.specs.declared.request.Want.{Want}
+use Rattle.tree_law.specs.declared.request.Want.TheVariants.{Stat, Open, Readdir, Read, Write}
 
 -- the requests that wait, in order of arrival; and what clients are asked to keep at most of their holds
 pub record Waiting : Type 0 where
@@ -16,6 +25,46 @@ pub record Waiting : Type 0 where
 -- two requests are one: the client and the number of its call are the same
 abbrev pub same_request : Request → Request → Bool
 same_request a b = same_client a.client b.client && nat_eq a.number b.number
+
+-- what a client may want: an inode that it names is one of the volume
+abbrev pub IsWant : Want → Type 0
+IsWant (Stat path) = Unit {0}
+IsWant (Open path) = Unit {0}
+IsWant (Readdir path) = Unit {0}
+IsWant (Read ino) = ino.0 < 512
+IsWant (Write ino) = ino.0 < 512
+
+-- a call changes names, which a server alone does
+abbrev pub changes_names : Call → Bool
+changes_names (Create path) = true
+changes_names (Mkdir path) = true
+changes_names (Unlink path) = true
+changes_names (Rmdir path) = true
+changes_names (Rename old_path new_path) = true
+changes_names (OpenCall path mode) = false
+changes_names (Close fd) = false
+changes_names (ReadCall fd offset len) = false
+changes_names (WriteCall fd offset bytes) = false
+changes_names (Truncate fd size) = false
+changes_names (StatCall path) = false
+changes_names (ReaddirCall path) = false
+changes_names (Fsync fd) = false
+
+-- what a client may ask: what it may want, or a change
+abbrev pub IsAsked : Asked → Type 0
+IsAsked (Wants want) = IsWant want
+IsAsked (Change call) = changes_names call ≡ true
+
+-- what a request may be: of a client of the cluster, with a number from 1
+pub record IsRequest (r : Request) : Type 0 where
+  pub client : r.client.0 < 16
+  pub number : 1 ≤ r.number
+  pub asked : IsAsked r.asked
+
+-- the rule of a line: each request stands once, and is what a request may be
+pub record IsLine (requests : List Request) : Type 0 where
+  pub once : IsDistinct same_request requests
+  pub each : All IsRequest requests
 
 -- requests, and one that arrives: it goes to the end, unless it stands in line already
 abbrev pub queued : List Request → Request → List Request
@@ -45,3 +94,12 @@ AsksNothing old new c = (q : HoldKey) → asked_at new q ≡ (if same_client c q
 -- requests without those of a client
 abbrev pub without_client : List Request → ClientId → List Request
 without_client requests c = filter (λ r. not (same_client c r.client)) requests
+
+-- a client's own needed hold, where a Revoke of it is unanswered, by what was asked of it
+abbrev pub own_blocker : ClientId → Token → Option Hold → Option Blocker
+own_blocker c need None = None
+own_blocker c need (Some mode) = Some (record { client = c; ino = need.ino; «class» = need.«class»; asked = mode })
+
+-- a client's own needed holds of which a Revoke is unanswered, in the order of the needs, each with what was asked of it
+abbrev pub own_blockers : List (HoldKey × Hold) → ClientId → List Token → List Blocker
+own_blockers asked c needs = filter_map (λ need. own_blocker c need (asked_at asked (key_of c need.ino need.«class»))) needs

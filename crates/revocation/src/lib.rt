@@ -1,12 +1,18 @@
-//! The line of requests at a server, and the Revokes for the holds that block its head: requests stand
-//! in order of arrival, each once, and a hold is asked back once, or again to a lower mode.
+//! The line of requests at a server, and what it asks clients to give up for the request at its head.
+//!
+//! A request that comes is put at the end, unless it stands in line already (`push`). A server looks at the
+//! `head` and at the holds that block it: those of others, which the token table tells, and those of the
+//! caller itself of which a Revoke is unanswered (`put_own`). Where there are any it sends what `to_send`
+//! gives, and waits; where there are none it serves the request and takes it out (`pop`). `lowered` notes
+//! that a hold went down, `drop_client` that a client is purged, and `asked` tells what is asked of a hold.
+//!
+//! Requests stand in order of arrival, each once, and each is what a request may be. A hold is asked back
+//! once, and again only to a lower mode. After want of memory all is as it was.
 #![tactic(auto)]
 
 mod asked;
 mod asking;
 mod line;
 mod owner;
-#[cfg(test)]
-mod tests;
 
 pub use line::{Line, RevokeList};

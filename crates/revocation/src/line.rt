@@ -1,8 +1,9 @@
-ghost use Rattle.std.specs.Prelude.{◌≡◌, [], IfOk, OnOk, OnErr, All, drop, slice_get, filter, not};
+ghost use Rattle.std.specs.Prelude.{◌≡◌, ◌++◌, [], IfOk, OnOk, OnErr, All, drop, slice_get, filter, not};
 ghost use Rattle.std.specs.Option.{option_copied};
 ghost use Rattle.std.specs.List.{list_any};
+ghost use Rattle.std.specs.Option.{option_to_list};
 ghost use Rattle.token_table.specs.Table.{key_of, same_client};
-ghost use Rattle.revocation.specs.Waiting.{same_request, queued, asked_at, Answers, AsksNothing, without_client};
+ghost use Rattle.revocation.specs.Waiting.{same_request, queued, asked_at, IsRequest, own_blocker, own_blockers, Answers, AsksNothing, without_client};
 ghost use Rattle.revocation.specs.Formed.{AreAskable, IsRevoke};
 ghost use Rattle.revocation.specs.Revokes.{revokes_of, AsksAll};
 
@@ -14,8 +15,8 @@ use indexmap::IndexMap;
 use std::alloc::Global;
 use std::collections::VecDeque;
 use std::marker::Model;
-use token_kind::{Blocker, Class, Hold};
-use token_table::HoldKey;
+use token_kind::{Blocker, BlockerList, Class, Hold, Token};
+use token_table::{HoldKey, put_item};
 use tree_law::Request;
 
 /// The requests that wait at a server, in order of arrival, each once, and the holds that clients were
@@ -27,14 +28,13 @@ pub struct Line {
 }
 
 impl Model for Line {
-    ghost use Rattle.std.specs.List.{IsDistinct};
-    ghost use Rattle.revocation.specs.Waiting.{Waiting, same_request};
+    ghost use Rattle.revocation.specs.Waiting.{Waiting, IsLine};
 
     ghost Value = { Waiting };
 
     ghost view = { λ line. record { requests = line.requests.items; asked = line.asked.entries } };
 
-    ghost invariant = { λ line. IsDistinct same_request line.requests.items };
+    ghost invariant = { λ line. IsLine line.requests.items };
 }
 
 impl Line {
@@ -51,6 +51,7 @@ impl Line {
     /// Puts a request at the end, unless it stands in line already: one of the same client for its call
     /// of the same number. After want of memory the line is as it was.
     pub fn push(&mut self, r: Request) -> Result<(), Oom>
+        requires { IsRequest r }
         ensures ok { OnOk result (self.new ≡ record self.old { requests = queued self.old.requests r }) }
         ensures err { OnErr result (self.new ≡ self.old) }
     {
@@ -60,18 +61,21 @@ impl Line {
         Ok(())
     }
 
-    /// The request that arrived first, or none where the line is empty.
+    /// The request that arrived first, or none where the line is empty. Each request in line is of a client
+    /// of the cluster, has a number from 1, and asks a change or what a client may want.
     pub fn head(&self) -> Option<&Request>
-        ensures { option_copied result ≡ slice_get self.now.requests 0 }
+        ensures head { option_copied result ≡ slice_get self.now.requests 0 }
+        ensures each { All IsRequest self.now.requests }
     {
         self.requests.front()
     }
 
-    /// Takes the head out of the line, if there is one.
-    pub fn pop(&mut self)
-        ensures { self.new ≡ record self.old { requests = drop 1 self.old.requests } }
+    /// Takes the head out of the line and hands it over, if there is one.
+    pub fn pop(&mut self) -> Option<Request>
+        ensures head { result ≡ slice_get self.old.requests 0 }
+        ensures rest { self.new ≡ record self.old { requests = drop 1 self.old.requests } }
     {
-        self.requests.pop_front();
+        self.requests.pop_front()
     }
 
     /// Drops the requests of a client, and what was asked of it.
@@ -125,6 +129,32 @@ impl Line {
             class,
         };
         asked_at(&self.asked, key)
+    }
+
+    /// Puts at the end of a list those of the client's own needed holds of which a Revoke is unanswered, in
+    /// the order of the needs: they block what it needs, beside the holds of others. Each is asked what it
+    /// was asked before, so nothing new is sent for it.
+    pub fn put_own(&self, c: ClientId, needs: &[Token], out: &mut BlockerList) -> Result<(), Oom>
+        ensures { OnOk result (out.new ≡ out.old ++ own_blockers self.now.asked c needs.now) }
+    {
+        for need in needs {
+            put_item(out, self.own_blocker(c, *need))?;
+        }
+        Ok(())
+    }
+
+    fn own_blocker(&self, c: ClientId, need: Token) -> Option<Blocker>
+        ensures { result ≡ own_blocker c need (asked_at self.now.asked (key_of c need.ino need.«class»)) }
+    {
+        match self.asked(c, need.ino, need.class) {
+            None => None,
+            Some(asked) => Some(Blocker {
+                client: c,
+                ino: need.ino,
+                class: need.class,
+                asked,
+            }),
+        }
     }
 
     /// Whether the request stands in line.

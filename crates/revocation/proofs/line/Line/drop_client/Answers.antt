@@ -1,12 +1,8 @@
-use Rattle.std.proofs.Common.{List, sym, subst, not}
-use Rattle.std.specs.List.{IsDistinct}
-use Rattle.tree_law.specs.declared.request.Request.{Request}
+use Rattle.std.proofs.Common.{sym, subst, not}
 use Rattle.token_table.specs.Table.{same_client}
-use Rattle.revocation.specs.Waiting.{same_request}
-use Rattle.revocation.proofs.Requests.{distinct-filter}
+use Rattle.revocation.specs.Waiting.{IsLine}
+use Rattle.revocation.proofs.Requests.{line_filter}
 use Rattle.revocation.proofs.line.Line.drop_client.Goals as goal
 
 pub invariant_of-self : goal.invariant_of-self
-invariant_of-self c =
-    subst (λ (rs : List Request). IsDistinct same_request rs) (sym c.drop_requests.ensures)
-    (distinct-filter same_request (λ r. not (same_client c.args.c r.client)) c.self.inside.requests.items c.self.invariant)
+invariant_of-self c = subst IsLine (sym c.drop_requests.ensures) (line_filter (λ r. not (same_client c.args.c r.client)) c.self.inside.requests.items c.self.invariant)

@@ -1,13 +1,13 @@
 use Rattle.std.proofs.Common.{◌≡◌, ℕ, zero, suc, ◌+◌, ◌-◌, ◌*◌, ◌/◌, ◌≤◌, ◌<◌, List, [], ◌∷◌, ◌++◌, length, take, drop, true, refl, sym, ap, ◌∙◌, add-one, append-nil, min, length-drop, arith}
 use Rattle.std.specs.List.{flat_map, All}
-use Rattle.std.proofs.Math.Nat.{lt-div-mul-add}
+use Rattle.std.proofs.Math.Nat.{lt-div-mul-add, div-mul-le_self}
 use Rattle.std.proofs.Math.Seq.{take-add}
 use Rattle.std.proofs.lemmas.Grind.{flat_map-append}
-use Rattle.std.proofs.lemmas.List.{length-take, take-append-drop}
+use Rattle.std.proofs.lemmas.List.{length-take, length-append, take-append-drop}
 use Rattle.std.proofs.lemmas.List.Elements.{All-push}
 use Rattle.token_kind.specs.declared.piece.Piece.{Piece}
 use Rattle.token_kind.specs.declared.reported.Reported.{Reported}
-use Rattle.report.specs.Report.{full_piece, full_pieces, full_count, pieces_of}
+use Rattle.report.specs.Report.{full_piece, full_pieces, full_count, pieces_of, AreNumbered}
 
 -- no piece yet
 pub full_pieces-zero : (holds : List Reported) → full_pieces holds 0 ≡ []
@@ -53,3 +53,43 @@ sizes holds =
     let n = full_count holds in
     All-push (λ (piece : Piece). length piece.holds ≤ 32) (full_pieces holds n) (record { index = n; last = true; holds = drop (n * 32) holds }) (full_sizes holds n)
     (let e : length (drop (n * 32) holds) ≡ length holds - n * 32 = length-drop (n * 32) holds in let r : length holds - (length holds - 1) / 32 * 32 ≤ 32 = rest_size (length holds) in omega (arith, e, r))
+
+-- there are as many full pieces as are cut
+full_length : (holds : List Reported) (n : ℕ) → length (full_pieces holds n) ≡ n
+unfolding full_pieces
+full_length holds zero = refl
+full_length holds (suc n) = length-append (full_pieces holds n) (full_piece holds n ∷ []) ∙ (let e : length (full_pieces holds n) ≡ n = full_length holds n in omega (arith, e))
+
+-- the pieces are the full ones and the last
+pub pieces_length : (holds : List Reported) → length (pieces_of holds) ≡ full_count holds + 1
+pieces_length holds =
+    let n = full_count holds in
+    length-append (full_pieces holds n) (record { index = n; last = true; holds = drop (n * 32) holds } ∷ [])
+    ∙ (let e : length (full_pieces holds n) ≡ n = full_length holds n in omega (arith, e))
+
+-- so many holds give no more pieces than
+count_bound : (h n : ℕ) → h ≤ n * 32 → 1 ≤ n → (h - 1) / 32 + 1 ≤ n
+count_bound h n few some = let e : (h - 1) / 32 * 32 ≤ h - 1 = div-mul-le_self (h - 1) 32 in omega (arith, e, few, some)
+
+pub count_pieces : (holds : List Reported) (n : ℕ) → length holds ≤ n * 32 → 1 ≤ n → length (pieces_of holds) ≤ n
+count_pieces holds n few some =
+    let e : length (pieces_of holds) ≡ (length holds - 1) / 32 + 1 = pieces_length holds in
+    let b : (length holds - 1) / 32 + 1 ≤ n = count_bound (length holds) n few some in omega (arith, e, b)
+
+-- one piece more, numbered by its place
+numbered-push : (from : ℕ) (ps : List Piece) (p : Piece) → AreNumbered from ps → p.index ≡ from + length ps → AreNumbered from (ps ++ p ∷ [])
+numbered-push from [] p h e = (omega (arith, e), tt)
+numbered-push from (q ∷ ps) p h e = (h.0, numbered-push (from + 1) ps p h.1 (omega (arith, e)))
+
+numbered_full : (holds : List Reported) (n : ℕ) → AreNumbered 0 (full_pieces holds n)
+unfolding full_pieces
+numbered_full holds zero = tt
+numbered_full holds (suc n) =
+    numbered-push 0 (full_pieces holds n) (full_piece holds n) (numbered_full holds n) (let e : length (full_pieces holds n) ≡ n = full_length holds n in omega (arith, e))
+
+-- the pieces of a report are numbered by their places
+pub numbered : (holds : List Reported) → AreNumbered 0 (pieces_of holds)
+numbered holds =
+    let n = full_count holds in
+    numbered-push 0 (full_pieces holds n) (record { index = n; last = true; holds = drop (n * 32) holds }) (numbered_full holds n)
+    (let e : length (full_pieces holds n) ≡ n = full_length holds n in omega (arith, e))

@@ -1,4 +1,4 @@
-use Rattle.std.specs.Prelude.{ℕ, zero, suc, ◌-◌, ◌*◌, ◌/◌, List, [], ◌∷◌, ◌++◌, true, false, length, take, drop}
+use Rattle.std.specs.Prelude.{◌≡◌, ◌+◌, ℕ, zero, suc, ◌-◌, ◌*◌, ◌/◌, List, [], ◌∷◌, ◌++◌, true, false, length, take, drop}
 use Rattle.token_kind.specs.declared.piece.Piece.{Piece}
 use Rattle.token_kind.specs.declared.reported.Reported.{Reported}
 
@@ -20,3 +20,8 @@ abbrev pub pieces_of : List Reported → List Piece
 pieces_of holds =
     let n = full_count holds in
     full_pieces holds n ++ record { index = n; last = true; holds = drop (n * 32) holds } ∷ []
+
+-- the indexes of pieces are their places, from a number on
+abbrev pub AreNumbered : ℕ → List Piece → Type 0
+AreNumbered from [] = Unit {0}
+AreNumbered from (piece ∷ pieces) = (piece.index ≡ from) × AreNumbered (from + 1) pieces

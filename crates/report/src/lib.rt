@@ -1,13 +1,13 @@
-//! A client's report of what it holds, in pieces: the pieces together are the holds, in order; there
-//! is one piece at least, each but the last has 32 holds, and the last alone says that it is the last.
+//! A client's report of what it holds, in pieces.
+//!
+//! A client that is asked by a new server cuts its holds by `pieces`, and sends each piece as a message.
+//! The pieces together are the holds, in order; there is one piece at least, each but the last has 32
+//! holds, the last alone says that it is the last, and each is numbered by its place.
 #![tactic(auto)]
-
-#[cfg(test)]
-mod tests;
 
 ghost use Rattle.std.specs.Prelude.{◌≡◌, ◌+◌, ◌*◌, ◌^◌, ◌≤◌, length, IfOk, All};
 ghost use Rattle.std.specs.List.{flat_map};
-ghost use Rattle.report.specs.Report.{pieces_of, full_piece};
+ghost use Rattle.report.specs.Report.{pieces_of, full_piece, AreNumbered};
 
 use cal_base::{HOLDS_PER_PIECE, Items, Oom};
 use std::alloc::Global;
@@ -17,11 +17,15 @@ use token_kind::{Piece, Reported, ReportedList};
 pub type Report = Items<Piece>;
 
 /// The pieces of a report of these holds, at most 2,097,152 of them: 32 holds in each piece but the
-/// last, which has the rest; a report of no hold is one piece of none.
+/// last, which has the rest; a report of no hold is one piece of none. Each piece has its place as its
+/// number, so numbers are below 65,536; the holds of one client, at most 2,048, make at most 64 pieces.
 pub fn pieces(alloc: Global, holds: &[Reported]) -> Result<Report, Oom>
     requires { length holds.now ≤ 2 ^ 21 }
     ensures pieces { IfOk result (λ report. report ≡ pieces_of holds.now) }
     ensures together { IfOk result (λ report. flat_map (λ piece. piece.holds) report ≡ holds.now) }
+    ensures numbered { IfOk result (AreNumbered 0) }
+    ensures count { IfOk result (λ report. length report ≤ 2 ^ 16) }
+    ensures few { IfOk result (λ report. length holds.now ≤ 2048 → length report ≤ 64) }
     ensures sizes { IfOk result (All (λ piece. length piece.holds ≤ HOLDS_PER_PIECE)) }
 {
     let report = cut(alloc, holds)?;

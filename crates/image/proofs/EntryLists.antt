@@ -1,23 +1,22 @@
 -- The entries at the places of an index are those of the map of names.
-use Rattle.std.proofs.Common.{◌≡◌, ◌≢◌, ◌<◌, ◌∙◌, ◌&&◌, ℕ, zero, suc, Bool, true, false, T, List, [], ◌∷◌, map, Option, Some, None, length, slice_index, cond, refl, sym, ap, subst, arith}
+use Rattle.std.proofs.Common.{◌≡◌, ◌≢◌, ◌<◌, ◌≤◌, ◌∙◌, ◌&&◌, ℕ, zero, suc, Bool, true, false, T, List, [], ◌∷◌, map, Option, Some, None, length, get_or, slice_index, cond, refl, sym, ap, subst, arith}
 use Rattle.std.specs.Ordering.{eq_by_cmp}
 use Rattle.std.specs.declared.cmp.Ordering.TheVariants.{Less}
 use Rattle.std.specs.FinMap as finite
 use Rattle.std.specs.FinMap.Entries.{below_all}
 use Rattle.cal_base.specs.declared.identity.Ino.{Ino}
 use Rattle.cal_base.specs.declared.directory_entry.DirectoryEntry.{DirectoryEntry}
-use Rattle.cal_base.specs.declared.directory_entry.EntryKind.{EntryKind}
 use Rattle.directory.specs.Block.{entry_at}
-use Rattle.directory.specs.Directory.{IsDirectory}
-use Rattle.directory.specs.Index.{IsIndex, IsTaken, name_of}
+use Rattle.directory.specs.Directory.{IsDirectory, entry_count}
+use Rattle.directory.specs.Index.{IsBefore, IsIndex, IsTaken, name_of}
 use Rattle.directory.specs.declared.entry.DirEntry.{DirEntry}
 use Rattle.tree_law.specs.Names.{Names}
-use Rattle.tree_law.specs.Rename.{is_directory}
-use Rattle.tree_law.specs.Tree.{Tree, node_at, root}
+use Rattle.tree_law.specs.Path.{IsName}
+use Rattle.tree_law.specs.Tree.{Tree, root}
 use Rattle.volume.specs.Volume.{Slots}
 use Rattle.volume_plan.specs.Shown.{names_of}
 use Rattle.volume_plan.proofs.NamesOf.{got_names, one_map_by, order, same_names, standing_got, tied_names}
-use Rattle.image.specs.Listed.{IsListed, kind_if, listed, listed_at}
+use Rattle.image.specs.Listed.{AreEntries, entry_of, listed, listed_at}
 
 abbrev Row : Type 0
 Row = List (List ℕ × Ino)
@@ -122,29 +121,71 @@ row_is slots places d index =
     (λ name ino is. got name ∙ back slots places name ino d index is) in
     sym (finite.entries-from_sorted order (row slots places) rising) ∙ ap (λ (m : Names). finite.entries m) same
 
--- the pairs of what is listed are the row
-pair_listed : (tree : Tree) (o : Option DirEntry) → ((listed tree o).name, (listed tree o).ino) ≡ pair_of o
-pair_listed tree (Some e) = refl
-pair_listed tree None = refl
+-- no more entries than slots
+count_within : (slots : Slots) → entry_count slots ≤ length slots
+unfolding entry_count
+count_within [] = omega arith
+count_within (Some e ∷ slots) = (let rest = count_within slots in omega arith)
+count_within (None ∷ slots) = (let rest = count_within slots in omega arith)
 
-pairs : (tree : Tree) (slots : Slots) (places : List ℕ) → map (λ (entry : DirectoryEntry). (entry.name, entry.ino)) (map (listed_at tree slots) places) ≡ row slots places
-pairs tree slots [] = refl
-pairs tree slots (place ∷ places) =
-    ap (λ (p : List ℕ × Ino). p ∷ map (λ (entry : DirectoryEntry). (entry.name, entry.ino)) (map (listed_at tree slots) places)) (pair_listed tree (entry_at slots place))
-    ∙ ap (λ (rest : Row). pair_at slots place ∷ rest) (pairs tree slots places)
+-- what is listed is the row, with what each inode is
+one_listed : (tree : Tree) (o : Option DirEntry) → listed tree o ≡ entry_of tree (pair_of o)
+one_listed tree (Some e) = refl
+one_listed tree None = refl
 
-kind_listed : (tree : Tree) (o : Option DirEntry) → (listed tree o).kind ≡ kind_if (is_directory (node_at tree (listed tree o).ino))
-kind_listed tree (Some e) = refl
-kind_listed tree None = refl
+all_listed : (tree : Tree) (slots : Slots) (places : List ℕ) → map (listed_at tree slots) places ≡ map (entry_of tree) (row slots places)
+all_listed tree slots [] = refl
+all_listed tree slots (place ∷ places) =
+    ap (λ (e : DirectoryEntry). e ∷ map (listed_at tree slots) places) (one_listed tree (entry_at slots place))
+    ∙ ap (λ (rest : List DirectoryEntry). entry_of tree (pair_at slots place) ∷ rest) (all_listed tree slots places)
 
-kinds : (tree : Tree) (slots : Slots) (places : List ℕ) → map (λ (entry : DirectoryEntry). entry.kind) (map (listed_at tree slots) places)
-    ≡ map (λ (entry : DirectoryEntry). kind_if (is_directory (node_at tree entry.ino))) (map (listed_at tree slots) places)
-kinds tree slots [] = refl
-kinds tree slots (place ∷ places) =
-    ap (λ (k : EntryKind). k ∷ map (λ (entry : DirectoryEntry). entry.kind) (map (listed_at tree slots) places)) (kind_listed tree (entry_at slots place))
-    ∙ ap (λ (rest : List EntryKind). kind_if (is_directory (node_at tree (listed_at tree slots place).ino)) ∷ rest) (kinds tree slots places)
-
-pub are_listed : (tree : Tree) (slots read : Slots) (places : List ℕ) (entries : List DirectoryEntry) → IsDirectory slots → IsIndex slots places → read ≡ slots → entries ≡ map (listed_at tree read) places → IsListed tree slots entries
+pub are_listed : (tree : Tree) (slots read : Slots) (places : List ℕ) (entries : List DirectoryEntry) → IsDirectory slots → IsIndex slots places → read ≡ slots
+    → entries ≡ map (listed_at tree read) places → entries ≡ map (entry_of tree) (finite.entries (names_of slots))
 are_listed tree slots read places entries d index same is =
-    let all : IsListed tree slots (map (listed_at tree slots) places) = record { same = pairs tree slots places ∙ row_is slots places d index; kinds = kinds tree slots places } in
-    subst (IsListed tree slots) (sym (is ∙ ap (λ (s : Slots). map (listed_at tree s) places) same)) all
+    is ∙ ap (λ (s : Slots). map (listed_at tree s) places) same ∙ all_listed tree slots places ∙ ap (λ (r : Row). map (entry_of tree) r) (row_is slots places d index)
+
+-- an entry that is listed is one of the slots
+at_listed : (tree : Tree) (slots : Slots) (places : List ℕ) (k : ℕ) (d : DirectoryEntry) → k < length places → get_or (map (listed_at tree slots) places) k d ≡ listed_at tree slots (slice_index places k)
+at_listed tree slots [] k d low = absurd (omega arith)
+at_listed tree slots (place ∷ places) zero d low = refl
+at_listed tree slots (place ∷ places) (suc k) d low = at_listed tree slots places k d (omega arith)
+
+length-listed : (tree : Tree) (slots : Slots) (places : List ℕ) → length (map (listed_at tree slots) places) ≡ length places
+length-listed tree slots [] = refl
+length-listed tree slots (place ∷ places) = ap suc (length-listed tree slots places)
+
+-- of a place that is taken
+abbrev IsFormed : DirectoryEntry → Type 0
+IsFormed entry = IsName entry.name × (1 ≤ entry.ino.0) × (entry.ino.0 ≤ 511)
+
+formed_at : (tree : Tree) (slots : Slots) (place : ℕ) → IsDirectory slots → IsTaken slots place → IsFormed (listed_at tree slots place)
+formed_at tree slots place d taken = elim (entry_at slots place) as (λ o. entry_at slots place ≡ o → IsFormed (listed tree o)) [
+  | Some e ↦ λ at. (let is = d.entries place e at in (is.name, is.from_one, is.to_511))
+  | None ↦ λ at. absurd (taken at)
+] refl
+
+named_listed : (tree : Tree) (o : Option DirEntry) → (listed tree o).name ≡ name_of o
+named_listed tree (Some e) = refl
+named_listed tree None = refl
+
+pub are_formed : (tree : Tree) (slots read : Slots) (places : List ℕ) (entries : List DirectoryEntry) → IsDirectory slots → IsIndex slots places → read ≡ slots
+    → entries ≡ map (listed_at tree read) places → AreEntries entries
+are_formed tree slots read places entries d index same is =
+    subst AreEntries (sym (is ∙ ap (λ (s : Slots). map (listed_at tree s) places) same)) (record {
+      names = λ k other low. subst (λ (e : DirectoryEntry). IsName e.name) (sym (at k other low)) (formed k low).0;
+      inodes = λ k other low. subst (λ (e : DirectoryEntry). (1 ≤ e.ino.0) × (e.ino.0 ≤ 511)) (sym (at k other low)) ((formed k low).1, (formed k low).2);
+      rising = λ i j other less low. subst (λ (e : DirectoryEntry). IsBefore e.name (get_or (map (listed_at tree slots) places) j other).name) (sym (at i other (omega arith)))
+          (subst (λ (e : DirectoryEntry). IsBefore (listed_at tree slots (slice_index places i)).name e.name) (sym (at j other low)) (rises_at i j less low));
+      few = (let l = length-listed tree slots places in let c = index.count in let m = count_within slots in let f = d.few in omega arith);
+    })
+  where
+    at : (k : ℕ) (other : DirectoryEntry) → k < length (map (listed_at tree slots) places) → get_or (map (listed_at tree slots) places) k other ≡ listed_at tree slots (slice_index places k)
+    at k other low = at_listed tree slots places k other (let l = length-listed tree slots places in omega arith)
+
+    formed : (k : ℕ) → k < length (map (listed_at tree slots) places) → IsFormed (listed_at tree slots (slice_index places k))
+    formed k low = formed_at tree slots (slice_index places k) d (index.taken k (let l = length-listed tree slots places in omega arith))
+
+    rises_at : (i j : ℕ) → i < j → j < length (map (listed_at tree slots) places)
+        → IsBefore (listed_at tree slots (slice_index places i)).name (listed_at tree slots (slice_index places j)).name
+    rises_at i j less low = rw (named_listed tree (entry_at slots (slice_index places i)), named_listed tree (entry_at slots (slice_index places j)))
+        (index.sorted i j less (let l = length-listed tree slots places in omega arith))

@@ -13,16 +13,19 @@ use Rattle.tree_law.specs.Legal.{tree_of}
 use Rattle.tree_law.specs.Tree.{is_purged, node_at}
 use Rattle.tree_law.specs.declared.entry.Entry.{Entry}
 use Rattle.tree_law.specs.declared.entry.Entry.TheVariants.{Purge}
-use Rattle.volume.specs.Stands.{StandsForHistory}
+use Rattle.volume.specs.Stands.{AreBlocksKept, StandsForHistory}
 use Rattle.volume.specs.Volume.{Volume}
+use Rattle.volume_edit.specs.Blocks.{GoToFree, TakesFree}
 use Rattle.volume_edit.specs.Edit.{IsEdit, IsVolume, edited, free_inode, inode_at}
 use Rattle.volume_edit.specs.Homes.{AreHomes}
 use Rattle.volume_edit.specs.declared.edit.Edit.{Edit}
 use Rattle.volume_plan.proofs.EditParts.{get_there}
 use Rattle.volume_plan.proofs.FlushFits.{flush_edits_by}
+use Rattle.volume_plan.proofs.FlushedBytes.{data_goes_to_free}
+use Rattle.volume_plan.proofs.TakenFree.{flush_takes_free}
 use Rattle.volume_plan.proofs.Led.{flush_leads, purge_leads, reaping_stands}
 use Rattle.volume_plan.proofs.PurgeFits.{purge_edits}
-use Rattle.volume_plan.proofs.Reaping.{reap_edits}
+use Rattle.volume_plan.proofs.Reaping.{reap_edits, reap_takes}
 use Rattle.volume_plan.specs.Flushing.{IsFlushDue, blocks_for, data_writes, flush_of}
 use Rattle.volume_plan.specs.Leads.{Mounted}
 use Rattle.volume_plan.specs.Plans.{free_count, purge_of, reap_of}
@@ -31,6 +34,18 @@ use Rattle.image.specs.Image.{is_nameless, is_orphan}
 
 pub purge_is : (v : Volume) (client : ClientId) (e : Edit) → e ≡ purge_of v client → IsVolume v → client.0 < 16 → IsEdit v e
 purge_is v client e same is known = subst (IsEdit v) (sym same) (purge_edits v client is known)
+
+pub purge_takes_free : (v : Volume) (client : ClientId) (e : Edit) → e ≡ purge_of v client → TakesFree v e
+purge_takes_free v client e same = subst (TakesFree v) (sym same) (record { inode = tt; growth = tt })
+
+pub reap_takes_free : (v : Volume) (ino : Ino) (e : Edit) → e ≡ reap_of ino → TakesFree v e
+reap_takes_free v ino e same = subst (TakesFree v) (sym same) (reap_takes v ino)
+
+pub flush_takes_of : (v : Volume) (client : ClientId) (flush : Flush) (e : Edit) → e ≡ flush_of v client flush → IsVolume v → AreBlocksKept v → IsFlush flush → (inode_at v.inodes flush.ino.0).kind ≡ File → length flush.pieces ≤ free_count v → TakesFree v e
+flush_takes_of v client flush e same is kept of file enough = subst (TakesFree v) (sym same) (flush_takes_free v client flush is kept (record { is = of; file = file; enough = enough }))
+
+pub data_goes : (v : Volume) (flush : Flush) (writes : List (ℕ × List ℕ)) → writes ≡ data_writes (blocks_for v flush) flush.pieces → GoToFree v writes
+data_goes v flush writes same = subst (GoToFree v) (sym same) (data_goes_to_free v flush)
 
 purge_led : (sectors : List (List ℕ)) (v : Volume) (history : List Entry) (client : ClientId) (homes : List (ℕ × List ℕ)) → Mounted sectors v history → client.0 < 16 → is_purged (tree_of history) client ≡ false → AreHomes v (purge_of v client) homes
     → EntryStands sectors v history (purge_of v client) homes (Purge client)

@@ -21,6 +21,10 @@ unfoldable pub Loads : List (List ℕ) → Inode → ℕ → Slots → Type 0
 Loads sectors inode zero slots = slots ≡ []
 Loads sectors inode (suc block) slots = LoadsMore (Loads sectors inode block) (pointed sectors (slice_index inode.blocks block)) slots
 
+-- inode 0 is the root, a directory
+abbrev pub IsRootDir : ℕ → Inode → Type 0
+IsRootDir number inode = number ≡ 0 → inode.kind ≡ Dir
+
 -- the head, the map, a client's slot and an inode are in their grammar; the root is a directory
 pub record HasHead (sectors : List (List ℕ)) : Type 0 where
   pub clients : ℕ
@@ -37,7 +41,7 @@ pub record HasSlot (sectors : List (List ℕ)) (client : ℕ) : Type 0 where
 pub record HasInode (sectors : List (List ℕ)) (number : ℕ) : Type 0 where
   pub inode : Inode
   pub spelled : SpellsInode (sector sectors (36 + number)) inode
-  pub root : number ≡ 0 → inode.kind ≡ Dir
+  pub root : IsRootDir number inode
 
 -- an inode and its directory were read
 pub record IsNodeRead (sectors : List (List ℕ)) (number : ℕ) (inode : Inode) (slots : Slots) : Type 0 where

@@ -1,5 +1,5 @@
 -- The bytes of a file, as they are read from its blocks.
-use Rattle.std.specs.Prelude.{◌≡◌, ◌<◌, ◌≤◌, ◌%◌, ◌++◌, ℕ, List, length, take, slice_index, Result, Ok, Err}
+use Rattle.std.specs.Prelude.{◌≡◌, ◌==◌, ◌<◌, ◌≤◌, ◌%◌, ◌++◌, ◌∷◌, [], if◌then◌else◌, ℕ, List, length, take, slice_index, Result, Ok, Err}
 use Rattle.cal_base.specs.Faults.{Rose}
 use Rattle.inode.specs.declared.inode.Inode.{Inode}
 use Rattle.shared_disk.specs.Disk.{Disk, MeetsOther}
@@ -34,3 +34,8 @@ pub record PutsBlock (sectors : List (List ℕ)) (pointer count : ℕ) (old new 
 -- these are the first bytes of a file
 abbrev pub AreFirstBytes : List (List ℕ) → Inode → List ℕ → Type 0
 AreFirstBytes sectors inode bytes = (i : ℕ) → i < length bytes → slice_index bytes i ≡ file_byte sectors inode i
+
+-- the bytes of a sector once these writes are made, in order
+abbrev pub laid : List (ℕ × List ℕ) → ℕ → List ℕ → List ℕ
+laid [] at bytes = bytes
+laid (w ∷ ws) at bytes = laid ws at (if w.0 == at then w.1 else bytes)

@@ -1,15 +1,19 @@
 -- The entries of a directory, sorted by name, each with what its inode is.
-use Rattle.std.specs.Prelude.{◌≡◌, ℕ, Bool, true, false, List, [], map, Option, Some, None}
+use Rattle.std.specs.Prelude.{◌≤◌, ℕ, Bool, true, false, All, List, [], length, map, Option, Some, None}
+use Rattle.std.specs.List.{AllPairs}
 use Rattle.std.specs.FinMap as finite
 use Rattle.cal_base.specs.declared.directory_entry.DirectoryEntry.{DirectoryEntry}
 use Rattle.cal_base.specs.declared.directory_entry.EntryKind.{EntryKind}
 use Rattle.cal_base.specs.declared.directory_entry.EntryKind.TheVariants.{File, Directory}
+use Rattle.cal_base.specs.declared.identity.Ino.{Ino}
 use Rattle.directory.specs.Block.{entry_at}
+use Rattle.directory.specs.Index.{IsBefore}
 use Rattle.directory.specs.declared.entry.DirEntry.{DirEntry}
+use Rattle.tree_law.specs.Path.{IsName}
 use Rattle.tree_law.specs.Rename.{is_directory}
 use Rattle.tree_law.specs.Tree.{Tree, node_at, root}
-use Rattle.volume.specs.Volume.{Slots}
-use Rattle.volume_plan.specs.Shown.{names_of}
+use Rattle.volume.specs.Volume.{Slots, Volume, slots_of}
+use Rattle.volume_plan.specs.Shown.{names_of, shown}
 
 abbrev pub kind_if : Bool → EntryKind
 kind_if true = Directory
@@ -23,7 +27,17 @@ listed tree None = record { name = []; ino = root; kind = kind_if (is_directory 
 abbrev pub listed_at : Tree → Slots → ℕ → DirectoryEntry
 listed_at tree slots place = listed tree (entry_at slots place)
 
--- entries are those of a directory's slots, in the order of their names
-pub record IsListed (tree : Tree) (slots : Slots) (entries : List DirectoryEntry) : Type 0 where
-  pub same : map (λ entry. (entry.name, entry.ino)) entries ≡ finite.entries (names_of slots)
-  pub kinds : map (λ entry. entry.kind) entries ≡ map (λ entry. kind_if (is_directory (node_at tree entry.ino))) entries
+-- the entry of a name and an inode, with what the inode is
+abbrev pub entry_of : Tree → List ℕ × Ino → DirectoryEntry
+entry_of tree pair = record { name = pair.0; ino = pair.1; kind = kind_if (is_directory (node_at tree pair.1)) }
+
+-- what a volume lists of a directory: each of its names once, in their order; nothing of another inode
+abbrev pub listing : Volume → ℕ → List DirectoryEntry
+listing v number = map (entry_of (shown v)) (finite.entries (names_of (slots_of v number)))
+
+-- entries as a directory has them: each with a name, for an inode from 1 to 511, in the order of their names, no name twice
+pub record AreEntries (entries : List DirectoryEntry) : Type 0 where
+  pub names : All (λ entry. IsName entry.name) entries
+  pub inodes : All (λ entry. (1 ≤ entry.ino.0) × (entry.ino.0 ≤ 511)) entries
+  pub rising : AllPairs (λ a b. IsBefore a.name b.name) entries
+  pub few : length entries ≤ 1024

@@ -3,7 +3,6 @@ use Rattle.std.specs.Prelude.{◌≡◌, ◌≢◌, ◌≤◌, ◌<◌, ◌+◌,
 use Rattle.cal_base.specs.Faults.{Rose}
 use Rattle.inode.specs.Inode.{IsInode, SpellsInode}
 use Rattle.inode.specs.declared.inode.Inode.{Inode}
-use Rattle.inode.specs.declared.inode.Kind.TheVariants.{Dir}
 use Rattle.journal.specs.Layout.{sector}
 use Rattle.request_log.specs.Slot.{IsSlot, SpellsSlot}
 use Rattle.request_log.specs.declared.slot.Slot.{Slot}
@@ -14,7 +13,7 @@ use Rattle.space_map.specs.SpaceMap.{SpellsMap}
 use Rattle.volume.specs.Head.{SpellsHead}
 use Rattle.volume.specs.Volume.{Slots}
 use Rattle.volume_edit.specs.Edit.{HasSlots}
-use Rattle.image.specs.Damage.{IsNodeRead}
+use Rattle.image.specs.Damage.{IsNodeRead, IsRootDir}
 use Rattle.image.specs.declared.mount_halt.MountHalt.{MountHalt}
 use Rattle.image.specs.declared.mount_halt.MountHalt.TheVariants.{Fenced, Failed, Damaged}
 
@@ -61,7 +60,7 @@ AreSlots slots = (client : ℕ) (slot : Slot) → slice_get slots client ≡ Som
 pub record IsNode (number : ℕ) (inode : Inode) (slots : Slots) : Type 0 where
   pub inode_is : IsInode inode
   pub has : HasSlots inode.kind inode slots
-  pub root : number ≡ 0 → inode.kind ≡ Dir
+  pub root : IsRootDir number inode
 
 -- the first inodes were read
 abbrev pub AreInodesRead : List (List ℕ) → ℕ → List Inode → Type 0
@@ -70,7 +69,7 @@ AreInodesRead sectors count inodes = (number : ℕ) (inode : Inode) → number <
 -- what an inode of a number may be: the root is a directory
 pub record MayStand (number : ℕ) (inode : Inode) : Type 0 where
   pub inode_is : IsInode inode
-  pub root : number ≡ 0 → inode.kind ≡ Dir
+  pub root : IsRootDir number inode
 
 abbrev pub MayAllStand : ℕ → List Inode → Type 0
 MayAllStand count inodes = (number : ℕ) (inode : Inode) → number < count → slice_get inodes number ≡ Some inode → MayStand number inode

@@ -1,7 +1,6 @@
 ghost use Rattle.std.specs.Prelude.{◌≡◌, ◌≤◌, ◌<◌, ℕ, IfOk, Some, length, map, slice_index};
 ghost use Rattle.directory.specs.Index.{IsTaken};
-ghost use Rattle.image.specs.Listed.{IsListed, kind_if, listed, listed_at};
-ghost use Rattle.volume.specs.Volume.{slots_of};
+ghost use Rattle.image.specs.Listed.{AreEntries, kind_if, listed, listed_at, listing};
 ghost use Rattle.volume_plan.specs.Shown.{shown};
 
 use crate::image::Image;
@@ -11,10 +10,11 @@ use std::alloc::Global;
 
 impl Image {
     /// The entries of a directory in the order of their names, each with what its inode is; none where
-    /// the inode isn't a directory.
+    /// the inode isn't a directory. They are a function of the volume, as a server sends them.
     pub fn entries(&self, alloc: Global, ino: Ino) -> Result<EntryList, Oom>
         requires { ino.0 ≤ 511 }
-        ensures { IfOk result (λ entries. IsListed (shown self.now) (slots_of self.now ino.0) entries) }
+        ensures listed { IfOk result (λ entries. entries ≡ listing self.now ino.0) }
+        ensures formed { IfOk result AreEntries }
     {
         let blocks = &self.directories[ino.0 as usize];
         let entries = self.list(alloc, blocks.slots(), blocks.by_name())?;

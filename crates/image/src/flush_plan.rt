@@ -4,6 +4,8 @@ ghost use Rattle.inode.specs.declared.inode.Kind.TheVariants.{File};
 ghost use Rattle.token_kind.specs.Flush.{IsFlush, block_count};
 ghost use Rattle.tree_law.specs.FileState.{FileState};
 ghost use Rattle.tree_law.specs.declared.entry.Entry.{Entry};
+ghost use Rattle.volume.specs.Stands.{AreBlocksKept};
+ghost use Rattle.volume_edit.specs.Blocks.{GoToFree, TakesFree};
 ghost use Rattle.volume_edit.specs.Edit.{IsEdit, IsVolume, inode_at, slot_at};
 ghost use Rattle.volume_edit.specs.Homes.{AreHomes};
 ghost use Rattle.volume_plan.specs.Flushing.{IsFlushDue, blocks_for, cut_pointers, data_writes, flush_of, flushed_inode, free_from, pointed_at};
@@ -50,7 +52,9 @@ impl Image {
         requires enough { length flush.now.pieces ≤ free_count self.now }
         ensures data { IfOk result (λ plan. plan.data ≡ data_writes (blocks_for self.now flush.now) flush.now.pieces) }
         ensures edit { IfOk result (λ plan. plan.edit ≡ flush_of self.now client flush.now) }
+        ensures goes { IfOk result (λ plan. GoToFree self.now plan.data) }
         ensures allowed { IfOk result (λ plan. IsEdit self.now plan.edit) }
+        ensures takes { IfOk result (λ plan. AreBlocksKept self.now → TakesFree self.now plan.edit) }
         ensures homes { IfOk result (λ plan. AreHomes self.now plan.edit plan.txn) }
         ensures stands { IfOk result (λ plan. (sectors : List (List ℕ)) (history : List Entry) (file : FileState) → Mounted sectors self.now history → IsFlushDue self.now history client flush.now file
             → FlushStands sectors self.now history client flush.now plan.data plan.edit plan.txn) }
@@ -83,6 +87,7 @@ impl Image {
         requires blocks { blocks.now ≡ blocks_for self.now flush.now }
         ensures edit { result ≡ flush_of self.now client flush.now }
         ensures is { IsEdit self.now result }
+        ensures volume { IsVolume self.now }
     {
         Edit {
             slot: Some(self.counted(client, flush.number)),

@@ -1,6 +1,15 @@
 //! The volume in a server's memory. It takes all memory that it will ever need at once: a look-up or an
-//! edit takes none. A mount reads it, an edit changes it, and a plan finds the edit of a change, a flush,
-//! a purge or a reaping, and the transaction that carries it out.
+//! edit takes none.
+//!
+//! `Image::room` takes that memory; `mkfs` makes a new file system in it and on a disk, and `mount` reads
+//! one, or names the first sector that is outside its grammar. What is mounted stands for the history for
+//! which its sectors do (`a_mounted_volume_stands`).
+//!
+//! The calls that answer read it: `entries`, `needs`, `resolve`, and `read_file` with the bytes of a file
+//! from its disk (`read_file_behind` where writes are still to be made). `plan_change`, `plan_flush`,
+//! `plan_purge` and `plan_reap` each find an edit and the transaction that carries it out; the image stays
+//! as it is until `apply` makes the edit. Each plan is that of the specs, keeps the volume within its
+//! grammar and takes free blocks alone; with its homes in place the sectors stand for one entry more.
 #![tactic(auto)]
 
 mod after_edit;
@@ -23,13 +32,9 @@ mod mounts;
 mod moving;
 mod needs;
 mod plan_edits;
-#[cfg(test)]
-mod plan_tests;
 mod plans;
 mod read_lists;
 mod read_parts;
-#[cfg(test)]
-mod read_tests;
 mod removing;
 mod rename;
 mod resolve;
@@ -37,12 +42,10 @@ mod room;
 mod search;
 mod shown_node;
 mod slots;
-#[cfg(test)]
-mod tests;
 mod touches;
 
 pub use change_plan::{ChangePlan, TouchList};
-pub use file_read::read_file;
+pub use file_read::{read_file, read_file_behind};
 pub use flush_plan::{FlushPlan, SectorWrites};
 pub use image::Image;
 pub use law::{a_file_reads_as_it_lasts, a_mounted_volume_stands};

@@ -5,6 +5,7 @@ ghost use Rattle.tree_law.specs.Tree.{is_purged, node_at};
 ghost use Rattle.tree_law.specs.declared.entry.Entry.{Entry};
 ghost use Rattle.tree_law.specs.declared.entry.Entry.TheVariants.{Purge};
 ghost use Rattle.volume.specs.Stands.{StandsForHistory};
+ghost use Rattle.volume_edit.specs.Blocks.{TakesFree};
 ghost use Rattle.volume_edit.specs.Edit.{IsEdit, IsVolume, edited, inode_at, slot_at};
 ghost use Rattle.volume_edit.specs.Homes.{AreHomes};
 ghost use Rattle.volume_plan.specs.Leads.{Mounted};
@@ -38,6 +39,7 @@ impl Image {
         requires { client.0 < 16 }
         ensures edit { IfOk result (λ plan. plan.edit ≡ purge_of self.now client) }
         ensures allowed { IfOk result (λ plan. IsEdit self.now plan.edit) }
+        ensures takes { IfOk result (λ plan. TakesFree self.now plan.edit) }
         ensures homes { IfOk result (λ plan. AreHomes self.now plan.edit plan.txn) }
         ensures stands { IfOk result (λ plan. (sectors : List (List ℕ)) (history : List Entry) → Mounted sectors self.now history → is_purged (tree_of history) client ≡ false
             → EntryStands sectors self.now history plan.edit plan.txn (Purge client)) }
@@ -53,6 +55,7 @@ impl Image {
         requires orphan { is_orphan (inode_at self.now.inodes ino.0) ≡ true }
         ensures edit { IfOk result (λ plan. plan.edit ≡ reap_of ino) }
         ensures allowed { IfOk result (λ plan. IsEdit self.now plan.edit) }
+        ensures takes { IfOk result (λ plan. TakesFree self.now plan.edit) }
         ensures homes { IfOk result (λ plan. AreHomes self.now plan.edit plan.txn) }
         ensures stands { IfOk result (λ plan. (sectors : List (List ℕ)) (history : List Entry) → Mounted sectors self.now history → node_at (tree_of history) ino ≡ None
             → StandsForHistory (written sectors plan.txn) (edited self.now plan.edit) history) }

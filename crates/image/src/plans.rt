@@ -3,6 +3,8 @@ ghost use Rattle.cal_base.specs.declared.identity.Ino.{Ino};
 ghost use Rattle.tree_law.specs.declared.entry.Entry.{Entry};
 ghost use Rattle.tree_law.specs.declared.entry.Entry.TheVariants.{Call as Called};
 ghost use Rattle.volume.specs.Numbers.{is_change};
+ghost use Rattle.volume.specs.Stands.{AreBlocksKept};
+ghost use Rattle.volume_edit.specs.Blocks.{TakesFree};
 ghost use Rattle.volume_edit.specs.Edit.{IsEdit, IsVolume};
 ghost use Rattle.volume_edit.specs.Homes.{AreHomes};
 ghost use Rattle.volume_plan.specs.Leads.{HasPaths, IsAsked, Mounted};
@@ -46,6 +48,7 @@ impl Image {
         requires change { is_change call.now ≡ true }
         ensures plan { IfOk result (λ p. plan_of p.plan ≡ plan self.now client number call.now opened.now) }
         ensures allowed { IfOk result (λ p. IsEdit self.now p.plan.edit) }
+        ensures takes { IfOk result (λ p. AreBlocksKept self.now → TakesFree self.now p.plan.edit) }
         ensures homes { IfOk result (λ p. AreHomes self.now p.plan.edit p.txn) }
         ensures stands { IfOk result (λ p. (sectors : List (List ℕ)) (history : List Entry) → Mounted sectors self.now history → IsAsked history client number call.now opened.now
             → EntryStands sectors self.now history p.plan.edit p.txn (Called client number call.now p.plan.reply p.plan.new_ino)) }

@@ -1,6 +1,8 @@
-use Rattle.std.proofs.Common.{◌≡◌, ◌≤◌, ◌<◌, ◌-◌, ◌%◌, length, vec_capacity}
+use Rattle.std.proofs.Common.{◌≡◌, ◌⊎◌, ◌≤◌, ◌<◌, ◌-◌, ◌%◌, length, vec_capacity}
+use Rattle.shared_disk.specs.Sectors.{written}
 use Rattle.image.specs.FileRead.{AreFirstBytes}
 use Rattle.image.specs.Mount.{Told}
+use Rattle.image.proofs.Filling.{AreHolesTo}
 use Rattle.image.proofs.file_read.read_blocks.Given as goal
 
 abbrev pub invariant-loop-into : goal.invariant-loop-into
@@ -10,7 +12,8 @@ invariant-loop-into g l = record {
   few : length l.into.items ≤ l.inode.size;
   whole : length l.into.items < l.inode.size → length l.into.items % 4096 ≡ 0;
   room : l.inode.size ≤ vec_capacity l.into;
-  bytes : Told (g.D.PortDisk.means l.fn.disk) (λ sectors. AreFirstBytes sectors l.inode l.into.items);
+  bytes : Told (g.D.PortDisk.means l.fn.disk) (λ sectors. AreFirstBytes (written sectors l.writes) l.inode l.into.items);
+  key : AreHolesTo l.inode (length l.into.items) ⊎ ((g.D.PortDisk.means l.fn.disk).key ≡ l.port.view);
 }
 
 abbrev pub decreases-loop-into : goal.decreases-loop-into

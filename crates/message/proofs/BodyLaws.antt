@@ -18,7 +18,9 @@ use Rattle.message.specs.Decoding.{Answers}
 use Rattle.message.specs.declared.read.DecodeError.{DecodeError}
 use Rattle.message.specs.declared.read.DecodeError.TheVariants.{BadMessage, OutOfMemory}
 use Rattle.message.specs.Bodies.{body_of, message_at, message_of, refuse_at, reply_at, reply_read}
-use Rattle.message.specs.Range.{AreGrantItems, AreKept, IsChange, IsFlush, IsInode, IsMessage, IsNumber, IsPiece, IsWant}
+use Rattle.token_kind.specs.Flush.{IsFlush}
+use Rattle.token_kind.specs.Kept.{IsRelease, IsRevoke}
+use Rattle.message.specs.Range.{AreGrantItems, IsChange, IsInode, IsMessage, IsNumber, IsPiece, IsWant}
 use Rattle.message.specs.Spelling.{change_bytes, flush_bytes, grant_items_bytes, message_bytes, piece_bytes, release_bytes, revoke_bytes, want_bytes}
 use Rattle.message.proofs.Branches.{branch_takes, mapped_again, two_again, two_takes}
 use Rattle.message.proofs.CallLaws.{behind, change_again, change_takes, want_again, want_takes}
@@ -86,8 +88,8 @@ body_takes field kind rest x fits =
     pick P (kind == 5) _ _ (λ t e. two_takes call_number_at reply_at Done (big_endian 8) IsNumber reply_bytes IsChangeReply message_bytes IsMessage 5 call_number_takes reply_takes (λ a b. refl) (λ a b g h. (g, h)) kind rest x (from_eq kind 5 t) fits e) (λ f.
     pick P (kind == 6) _ _ (λ t e. branch_takes flush_at Flush flush_bytes IsFlush message_bytes IsMessage 6 flush_takes (λ b. refl) (λ b g. g) kind rest x (from_eq kind 6 t) fits e) (λ f.
     pick P (kind == 7) _ _ (λ t e. branch_takes (number_at 8) Flushed (big_endian 8) (λ n. n < 256 ^ 8) message_bytes IsMessage 7 (number_take 8) (λ b. refl) (λ b g. g) kind rest x (from_eq kind 7 t) fits e) (λ f.
-    pick P (kind == 8) _ _ (λ t e. branch_takes revoke_at Revoke revoke_bytes (λ r. IsInode r.ino × AreKept 2 3 r.items) message_bytes IsMessage 8 revoke_takes (λ b. refl) (λ b g. g) kind rest x (from_eq kind 8 t) fits e) (λ f.
-    pick P (kind == 9) _ _ (λ t e. branch_takes release_at Release release_bytes (λ r. IsInode r.ino × AreKept 3 4 r.items) message_bytes IsMessage 9 release_takes (λ b. refl) (λ b g. g) kind rest x (from_eq kind 9 t) fits e) (λ f.
+    pick P (kind == 8) _ _ (λ t e. branch_takes revoke_at Revoke revoke_bytes (λ r. IsInode r.ino × IsRevoke r) message_bytes IsMessage 8 revoke_takes (λ b. refl) (λ b g. g) kind rest x (from_eq kind 8 t) fits e) (λ f.
+    pick P (kind == 9) _ _ (λ t e. branch_takes release_at Release release_bytes (λ r. IsInode r.ino × IsRelease r) message_bytes IsMessage 9 release_takes (λ b. refl) (λ b g. g) kind rest x (from_eq kind 9 t) fits e) (λ f.
     pick P (kind == 10) _ _ (λ t e. plain_takes 10 Ask refl tt kind rest x (from_eq kind 10 t) fits e) (λ f.
     pick P (kind == 11) _ _ (λ t e. branch_takes piece_at Piece piece_bytes IsPiece message_bytes IsMessage 11 piece_takes (λ b. refl) (λ b g. g) kind rest x (from_eq kind 11 t) fits e) (λ f.
     pick P (kind == 12) _ _ (λ t e. two_takes call_number_at client_at Wait (big_endian 8) IsNumber (λ client. client.0 ∷ []) (λ client. client.0 < 16) message_bytes IsMessage 12 call_number_takes client_takes (λ a b. refl) (λ a b g h. (g, h)) kind rest x (from_eq kind 12 t) fits e) (λ f.
@@ -109,8 +111,8 @@ message_again (Change number call) rest good = two_again call_number_at change_a
 message_again (Done number reply) rest good = two_again call_number_at reply_at Done (big_endian 8) IsNumber reply_bytes IsChangeReply call_number_again reply_again number reply rest good.0 good.1
 message_again (Flush flush) rest good = mapped_again flush_at Flush flush_bytes IsFlush flush_again flush rest good
 message_again (Flushed number) rest good = then_ok _ _ (number, rest) _ (number_is 8 number _ rest good refl) refl
-message_again (Revoke revoke) rest good = mapped_again revoke_at Revoke revoke_bytes (λ r. IsInode r.ino × AreKept 2 3 r.items) revoke_again revoke rest good
-message_again (Release release) rest good = mapped_again release_at Release release_bytes (λ r. IsInode r.ino × AreKept 3 4 r.items) release_again release rest good
+message_again (Revoke revoke) rest good = mapped_again revoke_at Revoke revoke_bytes (λ r. IsInode r.ino × IsRevoke r) revoke_again revoke rest good
+message_again (Release release) rest good = mapped_again release_at Release release_bytes (λ r. IsInode r.ino × IsRelease r) release_again release rest good
 message_again Ask rest good = refl
 message_again (Piece piece) rest good = mapped_again piece_at Piece piece_bytes IsPiece piece_again piece rest good
 message_again (Wait number client) rest good = two_again call_number_at client_at Wait (big_endian 8) IsNumber (λ client. client.0 ∷ []) (λ client. client.0 < 16) call_number_again client_again number client rest good.0 good.1

@@ -9,7 +9,7 @@ use Rattle.byteorder.specs.Endian.{big_number}
 use Rattle.cal_fields.specs.BigEndian.{big_endian}
 use Rattle.change_reply.proofs.Numbers.{drop_fits, number_fits, number_takes}
 use Rattle.message.specs.Reading.{Read, ◌>>=◌, byte_at, byte_field, many_at, number_at, number_field, take_at}
-use Rattle.message.specs.Range.{AreInTurn}
+use Rattle.message.proofs.InTurn.{AreInTurn}
 use Rattle.message.proofs.Front.{number_is}
 use Rattle.message.proofs.Parts.{bind_ok, meant_ok, ok_same}
 

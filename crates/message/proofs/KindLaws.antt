@@ -5,13 +5,14 @@ use Rattle.cal_base.specs.declared.directory_entry.EntryKind.{EntryKind}
 use Rattle.cal_base.specs.declared.directory_entry.EntryKind.TheVariants.{File, Directory}
 use Rattle.token_kind.specs.Class.{class_number, has_write}
 use Rattle.token_kind.specs.Hold.{hold_number}
+use Rattle.token_kind.specs.Kept.{most_left}
 use Rattle.token_kind.specs.declared.«class».Class.{Class}
 use Rattle.token_kind.specs.declared.«class».Class.TheVariants.{Names, Data, Attr, Open}
 use Rattle.token_kind.specs.declared.hold.Hold.{Hold}
 use Rattle.token_kind.specs.declared.hold.Hold.TheVariants.{None as Nothing, Read, Write}
 use Rattle.message.specs.Reading.{byte_field}
 use Rattle.message.specs.Field.{class_at, class_of, entry_kind_of, flag_at, flag_of, fresh_of, held_of, hold_of, kept_of, left_of, next_class_of}
-use Rattle.message.specs.Range.{MayBeFresh, MayHold, MayKeep, MayReport}
+use Rattle.message.specs.Range.{MayBeFresh, MayHold, MayReport}
 use Rattle.message.specs.Spelling.{entry_kind_byte, flag_byte}
 use Rattle.message.specs.Tokens.{index_at}
 use Rattle.message.proofs.Exact.{Again, Takes, byte_field_again, byte_field_takes}
@@ -101,7 +102,7 @@ hold_means : (of : Class) (n : ℕ) (a : Hold) → hold_of of n ≡ Some a → (
 unfolding hold_of
 hold_means of n a =
     let P : Option Hold → Type 0 = λ o. o ≡ Some a → (n ≡ hold_number a) × MayHold of a in
-    pick P (n == 0) _ _ (λ t e. rw (← some_same Nothing a e) (from_eq n 0 t, tt)) (λ f.
+    pick P (n == 0) _ _ (λ t e. rw (← some_same Nothing a e) (from_eq n 0 t, omega arith)) (λ f.
     pick P (n == 1) _ _ (λ t e. rw (← some_same Read a e) (from_eq n 1 t, tt)) (λ f.
     pick P (n == 2 && has_write of) _ _ (λ t e. let both = and_ok _ _ t in rw (← some_same Write a e) (from_eq n 2 both.0, both.1)) (λ f e. absurd cc)))
 
@@ -136,24 +137,42 @@ held_takes of = byte_field_takes (held_of of) hold_number (MayReport of) (λ n a
 pub held_again : (of : Class) → Again (byte_field (held_of of)) (λ a. hold_number a ∷ []) (MayReport of)
 held_again of = byte_field_again (held_of of) hold_number (MayReport of) (held_named of)
 
-kept_means : (of : Class) (n : ℕ) (a : Hold) → kept_of of n ≡ Some a → (n ≡ hold_number a) × MayKeep of a
+read_left : (of : Class) → has_write of ≡ true → 1 ≤ most_left of
+read_left Names e = absurd cc
+read_left Data e = omega arith
+read_left Attr e = omega arith
+read_left Open e = absurd cc
+
+read_is_left : (of : Class) → 1 ≤ most_left of → has_write of ≡ true
+read_is_left Names low = absurd (omega (arith, low))
+read_is_left Data low = refl
+read_is_left Attr low = refl
+read_is_left Open low = absurd (omega (arith, low))
+
+write_is_kept : (of : Class) → 2 ≤ most_left of → ⊥
+write_is_kept Names low = omega (arith, low)
+write_is_kept Data low = omega (arith, low)
+write_is_kept Attr low = omega (arith, low)
+write_is_kept Open low = omega (arith, low)
+
+kept_means : (of : Class) (n : ℕ) (a : Hold) → kept_of of n ≡ Some a → (n ≡ hold_number a) × (hold_number a ≤ most_left of)
 unfolding kept_of
 kept_means of n a =
-    let P : Option Hold → Type 0 = λ o. o ≡ Some a → (n ≡ hold_number a) × MayKeep of a in
-    pick P (n == 0) _ _ (λ t e. rw (← some_same Nothing a e) (from_eq n 0 t, tt)) (λ f.
-    pick P (n == 1 && has_write of) _ _ (λ t e. let both = and_ok _ _ t in rw (← some_same Read a e) (from_eq n 1 both.0, both.1)) (λ f e. absurd cc))
+    let P : Option Hold → Type 0 = λ o. o ≡ Some a → (n ≡ hold_number a) × (hold_number a ≤ most_left of) in
+    pick P (n == 0) _ _ (λ t e. rw (← some_same Nothing a e) (from_eq n 0 t, omega arith)) (λ f.
+    pick P (n == 1 && has_write of) _ _ (λ t e. let both = and_ok _ _ t in rw (← some_same Read a e) (from_eq n 1 both.0, read_left of both.1)) (λ f e. absurd cc))
 
-kept_named : (of : Class) (a : Hold) → MayKeep of a → kept_of of (hold_number a) ≡ Some a
+kept_named : (of : Class) (a : Hold) → hold_number a ≤ most_left of → kept_of of (hold_number a) ≡ Some a
 unfolding kept_of
 kept_named of Nothing good = refl
-kept_named of Read good = rw good refl
-kept_named of Write good = absurd good
+kept_named of Read good = rw (read_is_left of good) refl
+kept_named of Write good = absurd (write_is_kept of good)
 
-pub kept_takes : (of : Class) → Takes (byte_field (kept_of of)) (λ a. hold_number a ∷ []) (MayKeep of)
-kept_takes of = byte_field_takes (kept_of of) hold_number (MayKeep of) (λ n a fits means. kept_means of n a means)
+pub kept_takes : (of : Class) → Takes (byte_field (kept_of of)) (λ a. hold_number a ∷ []) (λ a. hold_number a ≤ most_left of)
+kept_takes of = byte_field_takes (kept_of of) hold_number (λ a. hold_number a ≤ most_left of) (λ n a fits means. kept_means of n a means)
 
-pub kept_again : (of : Class) → Again (byte_field (kept_of of)) (λ a. hold_number a ∷ []) (MayKeep of)
-kept_again of = byte_field_again (kept_of of) hold_number (MayKeep of) (kept_named of)
+pub kept_again : (of : Class) → Again (byte_field (kept_of of)) (λ a. hold_number a ∷ []) (λ a. hold_number a ≤ most_left of)
+kept_again of = byte_field_again (kept_of of) hold_number (λ a. hold_number a ≤ most_left of) (kept_named of)
 
 -- what a flush leaves, and nothing where there is none
 abbrev pub MayLeave : Class → ℕ → Hold → Type 0

@@ -3,6 +3,7 @@ pub mod Many
 pub mod Parts
 pub mod Paths
 pub mod Flat
+pub mod InTurn
 pub mod Fitting
 pub mod Exact
 pub mod FieldLaws

@@ -1,5 +1,5 @@
 -- Names, paths, entries and calls, against their spellings.
-use Rattle.std.proofs.Common.{◌≡◌, ◌==◌, ◌≤◌, ◌∷◌, ◌++◌, [], ℕ, Bool, true, false, ◌&&◌, List, length, All, refl, sym, ap, ◌∙◌, arith, append_assoc}
+use Rattle.std.proofs.Common.{◌≡◌, ◌<◌, ◌^◌, ◌==◌, ◌≤◌, ◌∷◌, ◌++◌, [], ℕ, Bool, true, false, ◌&&◌, List, length, All, refl, sym, ap, ◌∙◌, arith, append_assoc}
 use Rattle.std.specs.Bool.{Decides}
 use Rattle.std.specs.List.{flat_map, list_all}
 use Rattle.std.specs.Str.{bytes_eq}
@@ -7,18 +7,23 @@ use Rattle.std.proofs.lemmas.Bool.Decides.{nat_tests}
 use Rattle.std.proofs.lemmas.List.Elements.{All-tail}
 use Rattle.std.proofs.lemmas.Slice.Eq.{bytes_eq-Decides}
 use Rattle.cal_fields.specs.BigEndian.{big_endian}
-use Rattle.tree_law.specs.Path.{IsName, IsNameByte, IsPath}
+use Rattle.cal_base.specs.declared.directory_entry.DirectoryEntry.{DirectoryEntry}
+use Rattle.tree_law.specs.Entries.{AreEntries, is_before}
+use Rattle.tree_law.specs.NameTest.{is_name}
+use Rattle.tree_law.specs.Path.{IsName, IsPath}
+use Rattle.tree_law.proofs.EntryOrder.{before_passes, passes_before}
+use Rattle.tree_law.proofs.NameTests.{name_passes, passes_name}
 use Rattle.message.specs.Reading.{byte_field, number_at, take_at}
 use Rattle.message.specs.Field.{entry_kind_of, inode_at, one_to, up_to}
-use Rattle.message.specs.Names.{entries_at, entry_at, is_before, is_name, is_name_byte, name_at, name_by, path_at}
-use Rattle.message.specs.Range.{AreEntries, AreInTurn, IsEntry}
+use Rattle.message.specs.Names.{entries_at, entry_at, name_at, name_by, path_at}
 use Rattle.message.specs.Spelling.{entries_bytes, entry_bytes, entry_kind_byte, inode_bytes, name_bytes, path_bytes}
 use Rattle.message.proofs.Exact.{Again, Takes, begin, bytes_take, on, many_again, many_takes, number_take, then_ok}
 use Rattle.message.proofs.FieldLaws.{count_again, count_from_one_again, count_from_one_takes, count_takes, inode_again, inode_takes, to_le}
 use Rattle.message.proofs.Front.{bytes_are, number_is}
+use Rattle.message.proofs.InTurn.{IsEntry, all_alike, behind_entries, entries_behind}
 use Rattle.message.proofs.KindLaws.{entry_kind_again, entry_kind_takes}
 use Rattle.message.proofs.Parts.{and_ok, bind_ok, meant_ok, ok_same}
-use Rattle.message.proofs.Paths.{name_is, passed, path_is}
+use Rattle.message.proofs.Paths.{passed, path_is}
 
 -- a name of a kind that its test tells
 pub name_by_takes : (test : List ℕ → Bool) → Takes (name_by test) name_bytes (λ name. test name ≡ true)
@@ -43,43 +48,13 @@ name_by_again test name rest good =
     then_ok _ _ (length name, name ++ rest) _ (count_from_one_again 27 (length name) (name ++ rest) good.0)
     (then_ok _ _ (name, rest) _ (bytes_are name (name ++ rest) rest (length name) refl refl) (rw (good.1) refl))
 
-byte_passes : (byte : ℕ) → IsNameByte byte → is_name_byte byte ≡ true
-byte_passes byte is =
-    let low = to_le 33 byte is.0 in
-    let high = to_le byte 126 is.1 in
-    let other : (byte == 47) ≡ false = grind (arith, nat_tests, is.2) in
-    rw (low, high, other) refl
-
-bytes_pass : (name : List ℕ) → All IsNameByte name → list_all is_name_byte name ≡ true
-bytes_pass [] all = refl
-bytes_pass (byte ∷ name) all = rw (byte_passes byte (all 0 0 (omega arith)), bytes_pass name (All-tail IsNameByte byte name all)) refl
-
-not_so : {P : Type 0} (b : Bool) → Decides b P → (P → ⊥) → b ≡ false
-not_so true decides bad = absurd (bad (decides.0 refl))
-not_so false decides bad = refl
-
--- a name passes the test
-pub name_passes : (name : List ℕ) → IsName name → is_name name ≡ true
-unfolding is_name
-name_passes name is =
-    let low = to_le 1 (length name) is.from_one in
-    let high = to_le (length name) 27 is.to_twenty_seven in
-    let graphic = bytes_pass name is.graphic in
-    let one : bytes_eq name (46 ∷ []) ≡ false = not_so _ (bytes_eq-Decides name (46 ∷ [])) is.not_dot in
-    let two : bytes_eq name (46 ∷ 46 ∷ []) ≡ false = not_so _ (bytes_eq-Decides name (46 ∷ 46 ∷ [])) is.not_dot_dot in
-    rw (low, high, graphic, one, two) refl
-
 pub name_takes : Takes name_at name_bytes IsName
 name_takes bytes x fits e =
     let took = name_by_takes is_name bytes x fits e in
-    record { is = took.is; good = name_is x.0 took.good; fits = took.fits }
+    record { is = took.is; good = passes_name x.0 took.good; fits = took.fits }
 
 pub name_again : Again name_at name_bytes IsName
 name_again name rest good = name_by_again is_name name rest ((good.from_one, good.to_twenty_seven), name_passes name good)
-
-all_in_turn : {A : Type 0} (P : A → Type 0) (xs : List A) → All P xs → AreInTurn {S = Unit {0}} (λ before. P) (λ x. tt) tt xs
-all_in_turn P [] all = tt
-all_in_turn P (x ∷ xs) all = (all 0 x (omega arith), all_in_turn P xs (All-tail P x xs all))
 
 pub path_takes : Takes path_at path_bytes IsPath
 unfolding path_at path_bytes
@@ -97,7 +72,7 @@ pub path_again : Again path_at path_bytes IsPath
 unfolding path_at path_bytes
 path_again path rest good =
     then_ok _ _ (length path, flat_map name_bytes path ++ rest) _ (count_again 16 (length path) (flat_map name_bytes path ++ rest) good.to_sixteen)
-    (many_again {S = Unit {0}} (λ before. name_at) (λ name. tt) name_bytes (λ before. IsName) (λ s. name_again) path tt rest (all_in_turn IsName path good.names))
+    (many_again {S = Unit {0}} (λ before. name_at) (λ name. tt) name_bytes (λ before. IsName) (λ s. name_again) path tt rest (all_alike IsName path good.names))
 
 pub entry_takes : (before : List ℕ) → Takes (entry_at before) entry_bytes (IsEntry before)
 unfolding entry_at entry_bytes
@@ -111,7 +86,7 @@ entry_takes before bytes x fits e =
     let both = and_ok _ _ named.good in
     rw (← ok_same _ _ kind.2) (record {
       is = (on (on (begin named) inode) kinds).is;
-      good = record { name = name_is name.0.0 both.0; sorted = both.1; ino = inode.good };
+      good = record { name = passes_name name.0.0 both.0; sorted = passes_before before name.0.0 both.1; ino = inode.good };
       fits = kinds.fits;
     })
 
@@ -125,11 +100,15 @@ entry_again before entry rest good =
     let b = inode_bytes entry.ino in
     let c = entry_kind_byte entry.kind ∷ [] in
     ap (entry_at before) (regroup3 a b c rest)
-    ∙ then_ok _ _ (entry.name, b ++ (c ++ rest)) _ (name_by_again (λ name. is_name name && is_before before name) entry.name (b ++ (c ++ rest)) ((good.name.from_one, good.name.to_twenty_seven), rw (name_passes entry.name good.name, good.sorted) refl))
+    ∙ then_ok _ _ (entry.name, b ++ (c ++ rest)) _ (name_by_again (λ name. is_name name && is_before before name) entry.name (b ++ (c ++ rest)) ((good.name.from_one, good.name.to_twenty_seven), rw (name_passes entry.name good.name, before_passes before entry.name good.sorted) refl))
     (then_ok _ _ (entry.ino, c ++ rest) _ (inode_again entry.ino (c ++ rest) good.ino)
     (then_ok _ _ (entry.kind, rest) _ (entry_kind_again entry.kind rest tt) refl))
 
-pub entries_takes : Takes entries_at entries_bytes AreEntries
+-- as many entries as a count can tell
+abbrev pub CountedEntries : List DirectoryEntry → Type 0
+CountedEntries entries = (length entries < 2 ^ 16) × AreEntries entries
+
+pub entries_takes : Takes entries_at entries_bytes CountedEntries
 unfolding entries_at entries_bytes
 entries_takes bytes x fits e =
     let count = bind_ok (number_at 2 bytes) _ x e in
@@ -137,13 +116,13 @@ entries_takes bytes x fits e =
     let entries = many_takes entry_at (λ entry. entry.name) entry_bytes IsEntry entry_takes count.0.0 [] count.0.1 x counted.fits count.2 in
     record {
       is = (on (begin counted) entries.1).is ∙ ap (λ n. (big_endian 2 n ++ flat_map entry_bytes x.0) ++ x.1) (sym entries.0);
-      good = record { count = (let c = counted.good in omega (arith, c, entries.0)); each = entries.1.good };
+      good = ((let c = counted.good in omega (arith, c, entries.0)), behind_entries x.0 entries.1.good);
       fits = entries.1.fits;
     }
 
-pub entries_again : Again entries_at entries_bytes AreEntries
+pub entries_again : Again entries_at entries_bytes CountedEntries
 unfolding entries_at entries_bytes
 entries_again entries rest good =
     ap entries_at (append_assoc (big_endian 2 (length entries)) (flat_map entry_bytes entries) rest)
-    ∙ then_ok _ _ (length entries, flat_map entry_bytes entries ++ rest) _ (number_is 2 (length entries) _ _ good.count refl)
-    (many_again entry_at (λ entry. entry.name) entry_bytes IsEntry entry_again entries [] rest good.each)
+    ∙ then_ok _ _ (length entries, flat_map entry_bytes entries ++ rest) _ (number_is 2 (length entries) _ _ good.0 refl)
+    (many_again entry_at (λ entry. entry.name) entry_bytes IsEntry entry_again entries [] rest (entries_behind entries good.1))

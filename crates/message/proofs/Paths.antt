@@ -5,11 +5,13 @@ use Rattle.std.specs.List.{list_all, slice_split}
 use Rattle.std.proofs.lemmas.Bool.Decides.{nat_tests}
 use Rattle.std.proofs.lemmas.List.{take_more, take_all}
 use Rattle.std.proofs.lemmas.List.Elements.{All-cons, All-nil}
-use Rattle.tree_law.specs.Path.{IsName, IsNameByte, IsPath, path_text, slashed}
+use Rattle.tree_law.specs.NameTest.{is_name}
+use Rattle.tree_law.specs.Path.{IsName, IsPath, path_text, slashed}
+use Rattle.tree_law.proofs.NameTests.{passes_name}
 use Rattle.tree_law.proofs.PathParts.{parts_of_slashed}
 use Rattle.message.specs.Reading.{byte_at, take_at, byte_field}
 use Rattle.message.specs.Field.{up_to, one_to}
-use Rattle.message.specs.Names.{is_name_byte, is_dots, is_name, name_at, name_by, path_at}
+use Rattle.message.specs.Names.{name_at, name_by, path_at}
 use Rattle.message.proofs.Parts.{and_ok, bind_ok, meant_ok, many_all}
 
 -- one name more behind a slash
@@ -56,43 +58,6 @@ same_path (x ∷ xs) (y ∷ ys) is_a is_b e =
 pub from_le : (a b : ℕ) → nat_le a b ≡ true → a ≤ b
 from_le a b e = grind (arith, nat_tests)
 
-other_than : (a b : ℕ) → (if b == a then false else true) ≡ true → b ≢ a
-other_than a b e = grind (arith, nat_tests)
-
-name_byte_is : (byte : ℕ) → is_name_byte byte ≡ true → IsNameByte byte
-name_byte_is byte e =
-    let both = and_ok _ _ e in
-    let range = and_ok _ _ both.0 in
-    (from_le 33 byte range.0, from_le byte 126 range.1, other_than 47 byte both.1)
-
-all_name_bytes : (name : List ℕ) → list_all is_name_byte name ≡ true → All IsNameByte name
-all_name_bytes [] e = All-nil IsNameByte
-all_name_bytes (byte ∷ name) e =
-    let both = and_ok _ _ e in
-    All-cons IsNameByte byte name (name_byte_is byte both.0) (all_name_bytes name both.1)
-
-not_dots : (name : List ℕ) → (if is_dots name then false else true) ≡ true → (name ≢ 46 ∷ []) × (name ≢ 46 ∷ 46 ∷ [])
-not_dots name e = (
-  λ (is : name ≡ 46 ∷ []). (let bad : false ≡ true = rw is at e in absurd cc),
-  λ (is : name ≡ 46 ∷ 46 ∷ []). (let bad : false ≡ true = rw is at e in absurd cc),
-)
-
--- what passes the test is a name
-pub name_is : (name : List ℕ) → is_name name ≡ true → IsName name
-unfolding is_name
-name_is name e =
-    let last = and_ok _ _ e in
-    let middle = and_ok _ _ last.0 in
-    let sizes = and_ok _ _ middle.0 in
-    let dots = not_dots name last.1 in
-    record {
-      from_one = from_le 1 (length name) sizes.0;
-      to_twenty_seven = from_le (length name) 27 sizes.1;
-      graphic = all_name_bytes name middle.1;
-      not_dot = dots.0;
-      not_dot_dot = dots.1;
-    }
-
 -- a test that a value passed
 pub passed : {A : Type 0} (b : Bool) (x y : A) → (if b then Some x else None) ≡ Some y → (b ≡ true) × (x ≡ y)
 passed true x y e = (refl, cc)
@@ -116,5 +81,5 @@ path_is bytes rest names e =
     let byte = bind_ok (byte_at bytes) _ count.0 count.1 in
     let is = meant_ok _ _ _ count.0 byte.2 in
     let few = passed (nat_le byte.0.0 16) byte.0.0 count.0.0 is.0 in
-    let all = many_all {S = Unit {0}} IsName (λ before. name_at) (λ x. tt) (λ s l x read. name_is x.0 (name_by_passes is_name l x read)) count.0.0 tt count.0.1 (names, rest) count.2 in
+    let all = many_all {S = Unit {0}} IsName (λ before. name_at) (λ x. tt) (λ s l x read. passes_name x.0 (name_by_passes is_name l x read)) count.0.0 tt count.0.1 (names, rest) count.2 in
     record { to_sixteen = (let le : byte.0.0 ≤ 16 = from_le byte.0.0 16 few.0 in omega (arith, le, few.1, all.0)); names = all.1 }

@@ -3,51 +3,71 @@ use Rattle.std.proofs.Common.{◌≡◌, ◌+◌, ◌<◌, ◌≤◌, ◌^◌, �
 use Rattle.std.specs.List.{flat_map}
 use Rattle.cal_fields.specs.BigEndian.{big_endian}
 use Rattle.token_kind.specs.Class.{class_number}
+use Rattle.token_kind.specs.Flush.{IsFlush, block_count}
 use Rattle.token_kind.specs.Hold.{hold_number}
+use Rattle.token_kind.specs.Kept.{IsRelease, IsRevoke}
+use Rattle.token_kind.specs.declared.release.Release.{Release}
+use Rattle.token_kind.specs.declared.revoke.Revoke.{Revoke}
+use Rattle.cal_base.specs.declared.identity.Ino.{Ino}
+use Rattle.token_kind.specs.declared.«class».Class.{Class}
 use Rattle.token_kind.specs.declared.«class».Class.TheVariants.{Data, Attr}
+use Rattle.token_kind.specs.declared.hold.Hold.{Hold}
 use Rattle.message.specs.Reading.{byte_field, many_at, number_at}
 use Rattle.message.specs.Field.{call_number_at, class_at, flag_at, held_of, inode_at, left_of, size_at, up_to}
-use Rattle.message.specs.Tokens.{block_at, block_count, blocks_at, flush_at, kept_at, kept_items_at, piece_at, release_at, reported_at, revoke_at}
-use Rattle.message.specs.Range.{AreInTurn, AreKept, IsBlock, IsFlush, IsInode, IsPiece, IsReported}
+use Rattle.message.specs.Tokens.{block_at, blocks_at, flush_at, kept_at, kept_items_at, piece_at, release_at, reported_at, revoke_at}
+use Rattle.message.specs.Range.{IsInode, IsPiece, IsReported}
 use Rattle.message.specs.Spelling.{block_bytes, flag_byte, flush_bytes, flush_head_bytes, inode_bytes, items_bytes, piece_bytes, release_bytes, reported_bytes, revoke_bytes}
 use Rattle.message.proofs.Exact.{Again, Takes, begin, many_again, many_takes, number_take, on, then_ok}
 use Rattle.message.proofs.FieldLaws.{call_number_again, call_number_takes, count_again, count_takes, inode_again, inode_takes, size_again, size_takes}
 use Rattle.message.proofs.Front.{number_is}
+use Rattle.message.proofs.InTurn.{AreBlocks, AreKept, IsBlock, all_alike, alike_all, blocks_rise, blocks_whole, closed_within, kept_closed, kept_modes, kept_rise, rising_blocks, rising_kept, to_four}
 use Rattle.message.proofs.KindLaws.{class_again, class_takes, flag_again, flag_takes, held_again, held_takes, kept_again, kept_takes, left_again, left_takes}
 use Rattle.message.proofs.Parts.{bind_ok, ok_same}
-use Rattle.message.proofs.TokenLaws.{block_again, block_takes, kept_items_again, kept_items_takes, regroup5}
+use Rattle.message.proofs.TokenLaws.{SomeKept, block_again, block_takes, kept_items_again, kept_items_takes, regroup5}
 
-pub revoke_takes : Takes revoke_at revoke_bytes (λ revoke. IsInode revoke.ino × AreKept 2 3 revoke.items)
+asked_kept : (revoke : Revoke) → IsRevoke revoke → SomeKept 2 3 revoke.items
+asked_kept revoke is = (is.some, is.few, rising_kept 3 0 revoke.items is.rising (closed_within revoke.items is.closed) is.modes)
+
+kept_asked : (ino : Ino) (items : List (Class × Hold)) → SomeKept 2 3 items → IsRevoke (record { ino = ino; items = items })
+kept_asked ino items are = record { some = are.0; few = are.1; rising = kept_rise 3 0 items are.2; closed = kept_closed 0 items are.2; modes = kept_modes 3 0 items are.2 }
+
+told_kept : (release : Release) → IsRelease release → SomeKept 3 4 release.items
+told_kept release is = (is.some, is.few, rising_kept 4 0 release.items is.rising (λ k d h. to_four _) is.modes)
+
+kept_told : (ino : Ino) (items : List (Class × Hold)) → SomeKept 3 4 items → IsRelease (record { ino = ino; items = items })
+kept_told ino items are = record { some = are.0; few = are.1; rising = kept_rise 4 0 items are.2; modes = kept_modes 4 0 items are.2 }
+
+pub revoke_takes : Takes revoke_at revoke_bytes (λ revoke. IsInode revoke.ino × IsRevoke revoke)
 unfolding revoke_at
 revoke_takes bytes x fits e =
     let ino = bind_ok (inode_at bytes) _ x e in
     let inode = inode_takes bytes ino.0 fits ino.1 in
     let items = bind_ok (kept_items_at 2 3 ino.0.1) _ x ino.2 in
     let took = kept_items_takes 2 3 ino.0.1 items.0 inode.fits items.1 in
-    rw (← ok_same _ _ items.2) (record { is = (on (begin inode) took).is; good = (inode.good, took.good); fits = took.fits })
+    rw (← ok_same _ _ items.2) (record { is = (on (begin inode) took).is; good = (inode.good, kept_asked ino.0.0 items.0.0 took.good); fits = took.fits })
 
-pub revoke_again : Again revoke_at revoke_bytes (λ revoke. IsInode revoke.ino × AreKept 2 3 revoke.items)
+pub revoke_again : Again revoke_at revoke_bytes (λ revoke. IsInode revoke.ino × IsRevoke revoke)
 unfolding revoke_at
 revoke_again revoke rest good =
     ap revoke_at (append_assoc (inode_bytes revoke.ino) (items_bytes revoke.items) rest)
     ∙ then_ok _ _ (revoke.ino, items_bytes revoke.items ++ rest) _ (inode_again revoke.ino (items_bytes revoke.items ++ rest) good.0)
-    (then_ok _ _ (revoke.items, rest) _ (kept_items_again 2 3 revoke.items rest good.1) refl)
+    (then_ok _ _ (revoke.items, rest) _ (kept_items_again 2 3 revoke.items rest (asked_kept revoke good.1)) refl)
 
-pub release_takes : Takes release_at release_bytes (λ release. IsInode release.ino × AreKept 3 4 release.items)
+pub release_takes : Takes release_at release_bytes (λ release. IsInode release.ino × IsRelease release)
 unfolding release_at
 release_takes bytes x fits e =
     let ino = bind_ok (inode_at bytes) _ x e in
     let inode = inode_takes bytes ino.0 fits ino.1 in
     let items = bind_ok (kept_items_at 3 4 ino.0.1) _ x ino.2 in
     let took = kept_items_takes 3 4 ino.0.1 items.0 inode.fits items.1 in
-    rw (← ok_same _ _ items.2) (record { is = (on (begin inode) took).is; good = (inode.good, took.good); fits = took.fits })
+    rw (← ok_same _ _ items.2) (record { is = (on (begin inode) took).is; good = (inode.good, kept_told ino.0.0 items.0.0 took.good); fits = took.fits })
 
-pub release_again : Again release_at release_bytes (λ release. IsInode release.ino × AreKept 3 4 release.items)
+pub release_again : Again release_at release_bytes (λ release. IsInode release.ino × IsRelease release)
 unfolding release_at
 release_again release rest good =
     ap release_at (append_assoc (inode_bytes release.ino) (items_bytes release.items) rest)
     ∙ then_ok _ _ (release.ino, items_bytes release.items ++ rest) _ (inode_again release.ino (items_bytes release.items ++ rest) good.0)
-    (then_ok _ _ (release.items, rest) _ (kept_items_again 3 4 release.items rest good.1) refl)
+    (then_ok _ _ (release.items, rest) _ (kept_items_again 3 4 release.items rest (told_kept release good.1)) refl)
 
 reported_takes : Takes reported_at reported_bytes IsReported
 unfolding reported_at reported_bytes
@@ -100,7 +120,7 @@ piece_takes bytes x fits e =
     let front = big_endian 2 index.0.0 ++ (flag_byte last.0.0 ∷ []) in
     rw (← ok_same _ _ holds.2) (record {
       is = (on (on (on (begin indexed) last_took) counted) took.1).is ∙ ap (λ n. (front ++ (n ∷ []) ++ flat_map reported_bytes holds.0.0) ++ holds.0.1) (sym took.0);
-      good = record { index = indexed.good; count = (let c = counted.good in omega (arith, c, took.0)); each = took.1.good };
+      good = record { index = indexed.good; count = (let c = counted.good in omega (arith, c, took.0)); each = alike_all IsReported holds.0.0 took.1.good };
       fits = took.1.fits;
     })
 
@@ -115,7 +135,7 @@ piece_again piece rest good =
     ∙ then_ok _ _ (piece.index, b ++ (c ++ (d ++ rest))) _ (number_is 2 piece.index _ (b ++ (c ++ (d ++ rest))) good.index refl)
     (then_ok _ _ (piece.last, c ++ (d ++ rest)) _ (flag_again piece.last (c ++ (d ++ rest)) tt)
     (then_ok _ _ (length piece.holds, d ++ rest) _ (count_again 32 (length piece.holds) (d ++ rest) good.count)
-    (then_ok _ _ (piece.holds, rest) _ (many_again {S = Unit {0}} (λ before. reported_at) (λ hold. tt) reported_bytes (λ before. IsReported) (λ s. reported_again) piece.holds tt rest good.each) refl)))
+    (then_ok _ _ (piece.holds, rest) _ (many_again {S = Unit {0}} (λ before. reported_at) (λ hold. tt) reported_bytes (λ before. IsReported) (λ s. reported_again) piece.holds tt rest (all_alike IsReported piece.holds good.each)) refl)))
 
 regroup8 : (a b c d e f g h rest : List ℕ) → (a ++ b ++ c ++ d ++ e ++ f ++ g ++ h) ++ rest ≡ a ++ (b ++ (c ++ (d ++ (e ++ (f ++ (g ++ (h ++ rest)))))))
 regroup8 a b c d e f g h rest = simp append_assoc refl
@@ -124,7 +144,7 @@ abbrev pieces_bytes : List (ℕ × List ℕ) → List ℕ
 pieces_bytes pieces = (length pieces ∷ []) ++ flat_map block_bytes pieces
 
 abbrev ArePieces : ℕ → List (ℕ × List ℕ) → Type 0
-ArePieces blocks pieces = (length pieces ≤ 16) × AreInTurn (IsBlock blocks) (λ block. block.0 + 1) 0 pieces
+ArePieces blocks pieces = (length pieces ≤ 16) × AreBlocks blocks 0 pieces
 
 pieces_takes : (blocks : ℕ) → Takes (blocks_at blocks) pieces_bytes (ArePieces blocks)
 unfolding blocks_at
@@ -166,14 +186,16 @@ flush_takes bytes x fits e =
     rw (← ok_same _ _ pieces.2) (record {
       is = (on front pieces_took).is ∙ ap (λ (t : List ℕ). t ++ pieces.0.1) (sym (append_assoc texts (length pieces.0.0 ∷ []) (flat_map block_bytes pieces.0.0)));
       good = record {
-        number = number_took.good;
+        number = number_took.good.0;
+        fits = number_took.good.1;
         ino = inode.good;
         size = size_took.good;
         cut = cut_took.good;
         leave_data = data_took.good;
         leave_attr = attr_took.good;
-        count = pieces_took.good.0;
-        each = pieces_took.good.1;
+        few = pieces_took.good.0;
+        rising = blocks_rise (block_count size.0.0) 0 pieces.0.0 pieces_took.good.1;
+        whole = blocks_whole (block_count size.0.0) 0 pieces.0.0 pieces_took.good.1;
       };
       fits = pieces_took.fits;
     })
@@ -191,10 +213,10 @@ flush_again flush rest good =
     let h = flat_map block_bytes flush.pieces in
     let small : flush.size < 2 ^ 32 = (let s = good.size in omega (arith, s)) in
     ap flush_at (regroup8 a b c d e f g h rest)
-    ∙ then_ok _ _ (flush.number, b ++ (c ++ (d ++ (e ++ (f ++ (g ++ (h ++ rest))))))) _ (call_number_again flush.number (b ++ (c ++ (d ++ (e ++ (f ++ (g ++ (h ++ rest))))))) good.number)
+    ∙ then_ok _ _ (flush.number, b ++ (c ++ (d ++ (e ++ (f ++ (g ++ (h ++ rest))))))) _ (call_number_again flush.number (b ++ (c ++ (d ++ (e ++ (f ++ (g ++ (h ++ rest))))))) (good.number, good.fits))
     (then_ok _ _ (flush.ino, c ++ (d ++ (e ++ (f ++ (g ++ (h ++ rest)))))) _ (inode_again flush.ino (c ++ (d ++ (e ++ (f ++ (g ++ (h ++ rest)))))) good.ino)
     (then_ok _ _ (flush.size, d ++ (e ++ (f ++ (g ++ (h ++ rest))))) _ (size_again 262144 (omega arith) flush.size (d ++ (e ++ (f ++ (g ++ (h ++ rest))))) good.size)
     (then_ok _ _ (flush.cut, e ++ (f ++ (g ++ (h ++ rest)))) _ (size_again flush.size small flush.cut (e ++ (f ++ (g ++ (h ++ rest)))) good.cut)
     (then_ok _ _ (flush.leave_data, f ++ (g ++ (h ++ rest))) _ (kept_again Data flush.leave_data (f ++ (g ++ (h ++ rest))) good.leave_data)
     (then_ok _ _ (flush.leave_attr, g ++ (h ++ rest)) _ (kept_again Attr flush.leave_attr (g ++ (h ++ rest)) good.leave_attr)
-    (then_ok _ _ (flush.pieces, rest) _ (pieces_again (block_count flush.size) flush.pieces rest (good.count, good.each)) refl))))))
+    (then_ok _ _ (flush.pieces, rest) _ (pieces_again (block_count flush.size) flush.pieces rest (good.few, rising_blocks (block_count flush.size) 0 flush.pieces good.rising good.whole)) refl))))))

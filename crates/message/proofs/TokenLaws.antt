@@ -7,18 +7,20 @@ use Rattle.token_kind.specs.Hold.{hold_number}
 use Rattle.token_kind.specs.declared.«class».Class.{Class}
 use Rattle.token_kind.specs.declared.«class».Class.TheVariants.{Names, Data, Attr, Open}
 use Rattle.token_kind.specs.declared.content.Content.TheVariants.{Nothing as NoContent, Names as Entries, Bytes, Size}
+use Rattle.token_kind.specs.declared.hold.Hold.{Hold}
 use Rattle.message.specs.Reading.{byte_field, number_at, take_at}
 use Rattle.message.specs.Field.{class_at, fresh_of, hold_of, inode_at, next_class_of, one_to, size_at}
 use Rattle.message.specs.Names.{entries_at}
 use Rattle.message.specs.Tokens.{block_at, bytes_at, content_at, fresh_content_at, grant_item_at, grant_items_at, index_at, kept_at, kept_item_at, kept_items_at}
-use Rattle.message.specs.Range.{AreEntries, AreGrantItems, AreKept, IsBlock, IsContent, IsFreshContent, IsGrantItem, IsKept}
+use Rattle.message.specs.Range.{AreGrantItems, IsContent, IsFreshContent, IsGrantItem}
 use Rattle.message.specs.Spelling.{block_bytes, content_bytes, entries_bytes, flag_byte, grant_item_bytes, grant_items_bytes, inode_bytes, item_bytes, items_bytes}
 use Rattle.message.proofs.Branches.{mapped_again, mapped_takes}
 use Rattle.message.proofs.Exact.{Again, Takes, begin, bytes_take, many_again, many_takes, number_take, on, then_ok}
 use Rattle.message.proofs.FieldLaws.{count_from_one_again, count_from_one_takes, inode_again, inode_takes, size_again, size_takes}
 use Rattle.message.proofs.Front.{bytes_are, number_is}
+use Rattle.message.proofs.InTurn.{AreKept, IsBlock, IsKept, alike_all, all_alike}
 use Rattle.message.proofs.KindLaws.{class_again, class_takes, fresh_again, fresh_takes, hold_again, hold_takes, index_again, index_takes, kept_again, kept_takes, next_class_again, next_class_takes}
-use Rattle.message.proofs.NameLaws.{entries_again, entries_takes}
+use Rattle.message.proofs.NameLaws.{CountedEntries, entries_again, entries_takes}
 use Rattle.message.proofs.Parts.{bind_ok, ok_same}
 
 contents_takes : Takes bytes_at (λ bytes. big_endian 4 (length bytes) ++ bytes) (λ bytes. length bytes ≤ 262144)
@@ -39,13 +41,13 @@ contents_again contents rest good =
     (bytes_are contents (contents ++ rest) rest (length contents) refl refl)
 
 fresh_content_takes : (of : Class) → Takes (fresh_content_at of) content_bytes (IsFreshContent of)
-fresh_content_takes Names = mapped_takes entries_at Entries entries_bytes AreEntries content_bytes (IsFreshContent Names) entries_takes (λ b. refl) (λ b good. good)
+fresh_content_takes Names = mapped_takes entries_at Entries entries_bytes CountedEntries content_bytes (IsFreshContent Names) entries_takes (λ b. refl) (λ b good. good)
 fresh_content_takes Data = mapped_takes bytes_at Bytes (λ bytes. big_endian 4 (length bytes) ++ bytes) (λ bytes. length bytes ≤ 262144) content_bytes (IsFreshContent Data) contents_takes (λ b. refl) (λ b good. good)
 fresh_content_takes Attr = mapped_takes (size_at 262144) Size (big_endian 4) (λ size. size ≤ 262144) content_bytes (IsFreshContent Attr) (size_takes 262144) (λ b. refl) (λ b good. good)
 fresh_content_takes Open = λ bytes x fits e. rw (← ok_same _ _ e) (record { is = refl; good = tt; fits = fits })
 
 fresh_content_again : (of : Class) → Again (fresh_content_at of) content_bytes (IsFreshContent of)
-fresh_content_again Names (Entries entries) rest good = mapped_again entries_at Entries entries_bytes AreEntries entries_again entries rest good
+fresh_content_again Names (Entries entries) rest good = mapped_again entries_at Entries entries_bytes CountedEntries entries_again entries rest good
 fresh_content_again Names NoContent rest good = absurd good
 fresh_content_again Names (Bytes contents) rest good = absurd good
 fresh_content_again Names (Size size) rest good = absurd good
@@ -117,7 +119,7 @@ grant_items_takes bytes x fits e =
     let items = many_takes {S = Unit {0}} (λ before. grant_item_at) (λ item. tt) grant_item_bytes (λ before. IsGrantItem) (λ s. grant_item_takes) count.0.0 tt count.0.1 x counted.fits count.2 in
     record {
       is = (on (begin counted) items.1).is ∙ ap (λ n. (big_endian 2 n ++ flat_map grant_item_bytes x.0) ++ x.1) (sym items.0);
-      good = record { count = (let c = counted.good in omega (arith, c, items.0)); each = items.1.good };
+      good = record { count = (let c = counted.good in omega (arith, c, items.0)); each = alike_all IsGrantItem x.0 items.1.good };
       fits = items.1.fits;
     }
 
@@ -126,7 +128,7 @@ unfolding grant_items_at grant_items_bytes
 grant_items_again items rest good =
     ap grant_items_at (append_assoc (big_endian 2 (length items)) (flat_map grant_item_bytes items) rest)
     ∙ then_ok _ _ (length items, flat_map grant_item_bytes items ++ rest) _ (number_is 2 (length items) _ _ good.count refl)
-    (many_again {S = Unit {0}} (λ before. grant_item_at) (λ item. tt) grant_item_bytes (λ before. IsGrantItem) (λ s. grant_item_again) items tt rest good.each)
+    (many_again {S = Unit {0}} (λ before. grant_item_at) (λ item. tt) grant_item_bytes (λ before. IsGrantItem) (λ s. grant_item_again) items tt rest (all_alike IsGrantItem items good.each))
 
 pub block_takes : (blocks least : ℕ) → Takes (block_at blocks least) block_bytes (IsBlock blocks least)
 unfolding block_at
@@ -166,7 +168,11 @@ kept_item_again last before item rest good =
     then_ok _ _ (item.0, hold_number item.1 ∷ rest) _ (next_class_again last before item.0 (hold_number item.1 ∷ rest) (good.ascending, good.within))
     (then_ok _ _ (item.1, rest) _ (kept_again item.0 item.1 rest good.hold) refl)
 
-pub kept_items_takes : (limit last : ℕ) → Takes (kept_items_at limit last) items_bytes (AreKept limit last)
+-- so many classes, rising, up to a last one
+abbrev pub SomeKept : ℕ → ℕ → List (Class × Hold) → Type 0
+SomeKept limit last items = (1 ≤ length items) × (length items ≤ limit) × AreKept last 0 items
+
+pub kept_items_takes : (limit last : ℕ) → Takes (kept_items_at limit last) items_bytes (SomeKept limit last)
 unfolding kept_items_at items_bytes
 kept_items_takes limit last bytes x fits e =
     let count = bind_ok (byte_field (one_to limit) bytes) _ x e in
@@ -174,12 +180,12 @@ kept_items_takes limit last bytes x fits e =
     let items = many_takes (kept_item_at last) (λ item. class_number item.0) item_bytes (IsKept last) (kept_item_takes last) count.0.0 0 count.0.1 x counted.fits count.2 in
     record {
       is = (on (begin counted) items.1).is ∙ ap (λ n. ((n ∷ []) ++ flat_map item_bytes x.0) ++ x.1) (sym items.0);
-      good = record { some = (let c = counted.good.0 in omega (arith, c, items.0)); count = (let c = counted.good.1 in omega (arith, c, items.0)); each = items.1.good };
+      good = ((let c = counted.good.0 in omega (arith, c, items.0)), (let c = counted.good.1 in omega (arith, c, items.0)), items.1.good);
       fits = items.1.fits;
     }
 
-pub kept_items_again : (limit last : ℕ) → Again (kept_items_at limit last) items_bytes (AreKept limit last)
+pub kept_items_again : (limit last : ℕ) → Again (kept_items_at limit last) items_bytes (SomeKept limit last)
 unfolding kept_items_at items_bytes
 kept_items_again limit last items rest good =
-    then_ok _ _ (length items, flat_map item_bytes items ++ rest) _ (count_from_one_again limit (length items) (flat_map item_bytes items ++ rest) (good.some, good.count))
-    (many_again (kept_item_at last) (λ item. class_number item.0) item_bytes (IsKept last) (kept_item_again last) items 0 rest good.each)
+    then_ok _ _ (length items, flat_map item_bytes items ++ rest) _ (count_from_one_again limit (length items) (flat_map item_bytes items ++ rest) (good.0, good.1))
+    (many_again (kept_item_at last) (λ item. class_number item.0) item_bytes (IsKept last) (kept_item_again last) items 0 rest good.2)

@@ -1,28 +1,10 @@
 -- Names, paths and the entries of directories.
-use Rattle.std.specs.Prelude.{◌==◌, ◌∷◌, [], ◌&&◌, ◌||◌, ℕ, Bool, true, false, List, Some, None, Ok, length, nat_le, if◌then◌else◌}
-use Rattle.std.specs.Cmp.Lexicographic.{slice_cmp}
-use Rattle.std.specs.List.{list_all}
-use Rattle.std.specs.Str.{bytes_eq}
-use Rattle.std.specs.Ordering.{is_lt, nat_cmp}
+use Rattle.std.specs.Prelude.{[], ◌&&◌, ℕ, Bool, List, Some, None, Ok, if◌then◌else◌}
 use Rattle.cal_base.specs.declared.directory_entry.DirectoryEntry.{DirectoryEntry}
+use Rattle.tree_law.specs.Entries.{is_before}
+use Rattle.tree_law.specs.NameTest.{is_name}
 use Rattle.message.specs.Reading.{Read, ◌>>=◌, byte_field, number_at, take_at, many_at, alike_at, meant}
 use Rattle.message.specs.Field.{up_to, one_to, inode_at, entry_kind_of}
-
--- a graphic byte of ASCII other than '/'
-abbrev pub is_name_byte : ℕ → Bool
-is_name_byte byte = nat_le 33 byte && nat_le byte 126 && (if byte == 47 then false else true)
-
--- "." and ".." are no names
-abbrev pub is_dots : List ℕ → Bool
-is_dots name = bytes_eq name (46 ∷ []) || bytes_eq name (46 ∷ 46 ∷ [])
-
--- the names of paths, of which the length is told before
-unfoldable pub is_name : List ℕ → Bool
-is_name name = nat_le 1 (length name) && nat_le (length name) 27 && list_all is_name_byte name && (if is_dots name then false else true)
-
--- one name stands before another: the first byte in which they differ is lower, or it ends first
-unfoldable pub is_before : List ℕ → List ℕ → Bool
-is_before a b = is_lt (slice_cmp nat_cmp a b)
 
 -- the length, 1 to 27, and so many bytes, which pass the test
 unfoldable pub name_by : (List ℕ → Bool) → List ℕ → Read (List ℕ)

@@ -1,6 +1,7 @@
 -- What moves tokens and contents between clients and servers.
 use Rattle.std.specs.Prelude.{◌+◌, ◌/◌, ◌&&◌, ℕ, Bool, List, Ok, nat_lt, nat_le, if◌then◌else◌}
 use Rattle.token_kind.specs.Class.{class_number}
+use Rattle.token_kind.specs.Flush.{block_count}
 use Rattle.token_kind.specs.declared.«class».Class.{Class}
 use Rattle.token_kind.specs.declared.«class».Class.TheVariants.{Names, Data, Attr, Open}
 use Rattle.token_kind.specs.declared.content.Content.{Content}
@@ -38,10 +39,6 @@ grant_item_at bytes =
 
 unfoldable pub grant_items_at : List ℕ → Read (List GrantItem)
 grant_items_at bytes = number_at 2 bytes >>= λ count. alike_at grant_item_at count.0 count.1
-
--- how many blocks begin before a size
-abbrev pub block_count : ℕ → ℕ
-block_count size = (size + 4095) / 4096
 
 -- the index of a block from the least one that may come on, below the count of blocks, and the block
 abbrev pub index_at : ℕ → ℕ → List ℕ → Read ℕ

@@ -3,48 +3,15 @@ ghost use Rattle.std.specs.List.{list_all};
 ghost use Rattle.tree_law.specs.Path.{IsPath, path_text, slashed};
 ghost use Rattle.message.specs.Decoding.{Reads, ReadsAs};
 ghost use Rattle.message.specs.Reading.{alike_at, many_at};
-ghost use Rattle.message.specs.Names.{entries_at, entry_at, is_before, is_dots, is_name, is_name_byte, name_at, name_by, path_at};
+ghost use Rattle.message.specs.Names.{entries_at, entry_at, name_at, name_by, path_at};
+ghost use Rattle.tree_law.specs.Entries.{is_before};
+ghost use Rattle.tree_law.specs.NameTest.{is_name};
 
 use crate::input::Input;
 use crate::stop::Stop;
 use cal_base::{Blob, DirectoryEntry, EntryList, NameList, Oom};
 use std::alloc::Global;
-use std::cmp::Ordering;
-use tree_law::{Path, ReadPathError, read_path};
-
-/// Whether these bytes are "." or "..".
-fn is_dots(name: &[u8]) -> bool
-    ensures { result ≡ is_dots name.now }
-{
-    name == b".".as_slice() || name == b"..".as_slice()
-}
-
-/// Whether all of these bytes are those of names.
-fn are_name_bytes(name: &[u8]) -> bool
-    ensures { result ≡ list_all is_name_byte name.now }
-{
-    name.iter()
-        .all(|byte| 33 <= *byte && *byte <= 126 && *byte != 47)
-}
-
-/// Whether these bytes are a name.
-#[tactic(auto, unfolding(crate::specs::Names::is_name))]
-fn is_name(name: &[u8]) -> bool
-    ensures { result ≡ is_name name.now }
-{
-    1 <= name.len() && name.len() <= 27 && are_name_bytes(name) && !is_dots(name)
-}
-
-/// Whether the first stands before the second.
-#[tactic(auto, unfolding(crate::specs::Names::is_before))]
-fn is_before(a: &[u8], b: &[u8]) -> bool
-    ensures { result ≡ is_before a.now b.now }
-{
-    match a.cmp(b) {
-        Ordering::Less => true,
-        Ordering::Equal | Ordering::Greater => false,
-    }
-}
+use tree_law::{Path, ReadPathError, is_before, is_name, read_path};
 
 impl<'a> Input<'a> {
     /// A name, of 1 to 27 bytes.

@@ -49,7 +49,7 @@ pub use law::{
 pub use lookup::Lookup;
 pub use mode::Mode;
 pub use node::Node;
-pub use path::{Path, ReadPathError, is_name, read_path};
+pub use path::{Path, ReadPathError, is_before, is_name, read_path};
 pub use plain_tree::PlainTree;
 pub use regular_file::RegularFile;
 pub use rename::{Move, move_of};

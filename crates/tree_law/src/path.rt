@@ -1,11 +1,13 @@
 ghost use Rattle.std.specs.Prelude.{◌≡◌, ◌≢◌, ◌==◌, ℕ, List, IfOk, IsErrOf, IsTrue, ◌↔◌, ◌<◌, ◌∷◌, length, MatchOption};
 ghost use Rattle.std.specs.List.{list_all};
+ghost use Rattle.tree_law.specs.Entries.{is_before};
 ghost use Rattle.tree_law.specs.NameTest.{is_name, is_name_byte};
 ghost use Rattle.tree_law.specs.Path.{IsPath, IsName, path_text, IsNoPathText};
 ghost use Rattle.tree_law.specs.declared.path.ReadPathError.TheVariants.{OutOfMemory};
 
 use cal_base::{Blob, NAME_BYTES, NameList, Oom, PATH_NAMES, cut_at};
 use std::alloc::{AllocError, AllocFailed, Global};
+use std::cmp::Ordering;
 use std::marker::Model;
 
 /// A path: `/`, or 1 to 16 names, each of 1 to 27 graphic ASCII bytes without `/`, and neither `.`
@@ -105,6 +107,18 @@ fn are_name_bytes(bytes: &[u8]) -> bool
     bytes
         .iter()
         .all(|byte| 33 <= *byte && *byte <= 126 && *byte != 47)
+}
+
+/// Whether the first name stands before the second in the order of a directory's entries: the first
+/// byte in which they differ is lower, or it ends first.
+#[tactic(auto, unfolding(crate::specs::Entries::is_before))]
+pub fn is_before(a: &[u8], b: &[u8]) -> bool
+    ensures { result ≡ is_before a.now b.now }
+{
+    match a.cmp(b) {
+        Ordering::Less => true,
+        Ordering::Equal | Ordering::Greater => false,
+    }
 }
 
 /// A copy of a name's bytes.

@@ -7,6 +7,7 @@ use crate::image::Image;
 use cal_base::{Blob, DirectoryEntry, EntryKind, EntryList, Ino, Oom};
 use directory::DirEntry;
 use std::alloc::Global;
+use tree_law::Lookup;
 
 impl Image {
     /// The entries of a directory in the order of their names, each with what its inode is; none where

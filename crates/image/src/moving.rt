@@ -18,7 +18,7 @@ use crate::removing::place_of;
 use cal_base::{ClientId, Ino, Oom};
 use directory::{DirEntry, EntryName};
 use std::alloc::Global;
-use tree_law::{Move, Path, Reply, Why};
+use tree_law::{Move, Path, Reply, Why, move_of};
 use volume_edit::{Edit, Entering, Growth, InodeEdit};
 
 /// The first empty slot of a directory, and whether an entry there adds a block.
@@ -194,7 +194,7 @@ impl Image {
         ensures goal { IsPath goal.now }
         ensures plan { IfOk result (λ p. plan_of p ≡ moving_by self.now client number opened.now (touches (shown self.now) (Rename path.now goal.now)) (if_there self.now (move_of (shown self.now) path.now goal.now)) (last_of path.now) (last_of goal.now)) }
     {
-        let allowed = self.move_of(path.names(), goal.names());
+        let allowed = move_of(self, path.names(), goal.names());
         let touches = self.touched_rename(alloc, allowed)?;
         match self.if_there(allowed) {
             Ok(shift) => Ok(self.moving_by(

@@ -12,7 +12,7 @@ use crate::shown_node::ShownNode;
 use cal_base::{Blob, Ino, Oom};
 use std::alloc::Global;
 use token_kind::{Class, Hold, Token, TokenList};
-use tree_law::Want;
+use tree_law::{Lookup, Want, resolve};
 
 impl Image {
     /// The tokens that a client needs for what it wants, in order.
@@ -34,7 +34,7 @@ impl Image {
     {
         let mut tokens = TokenList::new(alloc);
         self.put_walk(path, &mut tokens)?;
-        if let Ok(ino) = self.resolve(path) {
+        if let Ok(ino) = resolve(self, path) {
             put_stat(self.node(ino), ino, &mut tokens)?;
         }
         Ok(tokens)
@@ -46,7 +46,7 @@ impl Image {
     {
         let mut tokens = TokenList::new(alloc);
         self.put_walk(path, &mut tokens)?;
-        if let Ok(ino) = self.resolve(path) {
+        if let Ok(ino) = resolve(self, path) {
             put_open(self.node(ino), ino, &mut tokens)?;
         }
         Ok(tokens)
@@ -58,7 +58,7 @@ impl Image {
     {
         let mut tokens = TokenList::new(alloc);
         self.put_walk(path, &mut tokens)?;
-        if let Ok(ino) = self.resolve(path) {
+        if let Ok(ino) = resolve(self, path) {
             put_look(self.node(ino), ino, &mut tokens)?;
         }
         Ok(tokens)

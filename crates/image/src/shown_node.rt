@@ -1,14 +1,14 @@
 ghost use Rattle.std.specs.Prelude.{◌≡◌, is_some, ok_or};
 ghost use Rattle.std.specs.FinMap as map;
 ghost use Rattle.image.specs.Nodes.{node_of};
-ghost use Rattle.tree_law.specs.Rename.{is_directory, is_full_directory};
+ghost use Rattle.tree_law.specs.Rename.{is_directory, is_full_directory, replacing};
 ghost use Rattle.tree_law.specs.Resolve.{as_directory, as_empty_directory, as_file, looked_up, room_for};
 ghost use Rattle.tree_law.specs.declared.reply.Why.TheVariants.{NoEnt};
 ghost use Rattle.volume_plan.specs.Shown.{names_of};
 
 use cal_base::{Blob, DIRECTORY_ENTRIES, Ino};
 use directory::DirBlocks;
-use tree_law::Why;
+use tree_law::{Move, Why};
 
 /// What a volume shows at a number: a directory, a file with a name, or nothing.
 #[derive(Clone, Copy)]
@@ -131,5 +131,30 @@ pub(crate) fn is_full_directory(node: ShownNode<'_>) -> bool
         ShownNode::Directory(blocks) => name_count(blocks) >= DIRECTORY_ENTRIES,
         ShownNode::File => false,
         ShownNode::Nothing => false,
+    }
+}
+
+/// A move in which a node replaces another, or why it can't.
+pub(crate) fn replacing(node: ShownNode<'_>, target: ShownNode<'_>, moving: Move) -> Result<Move, Why>
+    ensures { result ≡ replacing (node_of node.entry) (node_of target.entry) moving }
+{
+    match node {
+        ShownNode::Directory(_) => match target {
+            ShownNode::Directory(others) => {
+                if name_count(others) == 0 {
+                    Ok(moving)
+                } else {
+                    Err(Why::NotEmpty)
+                }
+            }
+            ShownNode::File => Err(Why::NotDir),
+            ShownNode::Nothing => Ok(moving),
+        },
+        ShownNode::File => match target {
+            ShownNode::Directory(_) => Err(Why::IsDir),
+            ShownNode::File => Ok(moving),
+            ShownNode::Nothing => Ok(moving),
+        },
+        ShownNode::Nothing => Ok(moving),
     }
 }

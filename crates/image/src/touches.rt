@@ -9,7 +9,7 @@ use crate::image::Image;
 use cal_base::{Ino, Items, Oom};
 use std::alloc::Global;
 use token_kind::Class;
-use tree_law::{Move, Why};
+use tree_law::{Lookup, Move, Why};
 
 /// One more is touched.
 fn put_touch(touches: &mut TouchList, ino: Ino, class: Class) -> Result<(), Oom>

@@ -135,7 +135,11 @@ pub(crate) fn is_full_directory(node: ShownNode<'_>) -> bool
 }
 
 /// A move in which a node replaces another, or why it can't.
-pub(crate) fn replacing(node: ShownNode<'_>, target: ShownNode<'_>, moving: Move) -> Result<Move, Why>
+pub(crate) fn replacing(
+    node: ShownNode<'_>,
+    target: ShownNode<'_>,
+    moving: Move,
+) -> Result<Move, Why>
     ensures { result ≡ replacing (node_of node.entry) (node_of target.entry) moving }
 {
     match node {

@@ -1,5 +1,7 @@
+use Rattle.std.proofs.Common.{subst}
+use Rattle.volume_edit.specs.Edit.{IsVolume}
 use Rattle.image.proofs.Nodes.{removable_within}
 use Rattle.image.proofs.image.Image.removable.Goals as goal
 
 pub returns-clause-within : goal.returns-clause-within
-returns-clause-within c = removable_within c.args.self.now _ c.self.invariant.volume c.removable.ensures
+returns-clause-within c = removable_within c.args.self.now c.args.path.now (subst IsVolume c.self.view_is c.self.invariant.volume) c.removable.ensures

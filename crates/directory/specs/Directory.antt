@@ -21,8 +21,8 @@ pub record StandsAt (slots : List (Option DirEntry)) (name : List ℕ) (place : 
   pub there : entry_at slots place ≡ Some entry
   pub named : entry.name ≡ name
 
--- a name stands
-pub record Stands (slots : List (Option DirEntry)) (name : List ℕ) : Type 0 where
+-- a name stands for something
+pub record HasName (slots : List (Option DirEntry)) (name : List ℕ) : Type 0 where
   pub place : ℕ
   pub at : StandsAt slots name place
 
@@ -30,7 +30,7 @@ pub record Stands (slots : List (Option DirEntry)) (name : List ℕ) : Type 0 wh
 pub record Repeats (slots : List (Option DirEntry)) (slot : Option DirEntry) : Type 0 where
   pub entry : DirEntry
   pub is : slot ≡ Some entry
-  pub stands : Stands slots entry.name
+  pub stands : HasName slots entry.name
 
 -- the inode of a slot
 abbrev pub ino_of : Option DirEntry → Option Ino

@@ -3,7 +3,7 @@ ghost use Rattle.tree_law.specs.Path.{IsName};
 ghost use Rattle.directory.specs.declared.entry.DirEntry.{DirEntry};
 ghost use Rattle.directory.specs.Block.{AreEntries, IsEntry, SpellsBlock, entry_at};
 ghost use Rattle.directory.specs.Changed.{after};
-ghost use Rattle.directory.specs.Directory.{Continues, Grows, IsAbsent, IsAlone, IsDirectory, Names, Removes, Replaces, Stands, StandsAt, block_slots, entry_count, first_empty, ino_of, inserted, with_room};
+ghost use Rattle.directory.specs.Directory.{Continues, Grows, IsAbsent, IsAlone, IsDirectory, Names, Removes, Replaces, HasName, StandsAt, block_slots, entry_count, first_empty, ino_of, inserted, with_room};
 ghost use Rattle.directory.specs.Index.{IsIndex};
 
 use crate::block::{BadBlock, put_slots};
@@ -144,7 +144,7 @@ impl DirBlocks {
 
     /// Puts another inode into the slot of a name that stands. It isn't the root.
     pub fn replace(&mut self, name: &[u8], ino: Ino)
-        requires stands { Stands self.old name.now }
+        requires stands { HasName self.old name.now }
         requires from_one { 1 ≤ ino.0 }
         requires to_511 { ino.0 ≤ 511 }
         ensures { Replaces self.old name.now ino.0 self.new }

@@ -1,7 +1,7 @@
 ghost use Rattle.std.specs.Prelude.{◌≡◌, ◌≢◌, ◌≤◌, ◌<◌, ◌+◌, ◌++◌, ◌∷◌, [], ℕ, None, Some, length, replicate, slice_set, take, ◌-◌, IfOk, IfSome, IfNone, OnOk, OnErr};
 ghost use Rattle.directory.specs.declared.entry.DirEntry.{DirEntry};
 ghost use Rattle.directory.specs.Block.{entry_at};
-ghost use Rattle.directory.specs.Directory.{IsAbsent, IsAlone, AreDistinct, Repeats, Replaces, Stands, StandsAt, entry_count, first_empty, with_ino};
+ghost use Rattle.directory.specs.Directory.{IsAbsent, IsAlone, AreDistinct, Repeats, Replaces, HasName, StandsAt, entry_count, first_empty, with_ino};
 ghost use Rattle.directory.specs.Index.{IsIndex, IsTaken};
 
 use crate::block::BadBlock;
@@ -179,7 +179,7 @@ impl SlotTable {
 
     /// Puts another inode into the slot of a name, where the name stands.
     pub(crate) fn set_ino(&mut self, name: &[u8], ino: Ino)
-        requires { Stands self.old name.now }
+        requires { HasName self.old name.now }
         ensures { Replaces self.old name.now ino.0 self.new }
     {
         match self.find(name) {

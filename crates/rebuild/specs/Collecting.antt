@@ -4,25 +4,25 @@ use Rattle.cal_base.specs.declared.identity.ClientId.{ClientId}
 use Rattle.token_table.specs.Table.{Table}
 use Rattle.rebuild.specs.declared.phase.Phase.{Phase}
 use Rattle.rebuild.specs.declared.phase.Phase.TheVariants.{Collecting as Collects, Admitted}
-use Rattle.rebuild.specs.declared.standing.Standing.{Standing}
-use Rattle.rebuild.specs.declared.standing.Standing.TheVariants.{Unlisted, Listed, Asked, Whole, Purged}
+use Rattle.rebuild.specs.declared.reporting.Reporting.{Reporting}
+use Rattle.rebuild.specs.declared.reporting.Reporting.TheVariants.{Unlisted, Listed, Asked, Whole, Purged}
 
 -- how many clients are asked at a time; where each client stands, client 0 first; and what they hold
 pub record Collecting : Type 0 where
   pub window : ℕ
-  pub standings : List Standing
+  pub standings : List Reporting
   pub table : Table
 
 -- where clients stand before any is listed
-abbrev pub none_listed : List Standing
+abbrev pub none_listed : List Reporting
 none_listed = replicate 16 Unlisted
 
 -- where a client stands
-abbrev pub standing_of : Collecting → ClientId → Standing
+abbrev pub standing_of : Collecting → ClientId → Reporting
 standing_of s c = unwrap_or (slice_get s.standings c.0) Unlisted
 
 -- a client isn't listed
-abbrev pub is_unlisted : Standing → Bool
+abbrev pub is_unlisted : Reporting → Bool
 is_unlisted Unlisted = true
 is_unlisted Listed = false
 is_unlisted (Asked next) = false
@@ -30,7 +30,7 @@ is_unlisted Whole = false
 is_unlisted Purged = false
 
 -- a client is listed and not yet asked
-abbrev pub is_to_ask : Standing → Bool
+abbrev pub is_to_ask : Reporting → Bool
 is_to_ask Unlisted = false
 is_to_ask Listed = true
 is_to_ask (Asked next) = false
@@ -38,7 +38,7 @@ is_to_ask Whole = false
 is_to_ask Purged = false
 
 -- a client was asked, and its report isn't whole
-abbrev pub is_asked : Standing → Bool
+abbrev pub is_asked : Reporting → Bool
 is_asked Unlisted = false
 is_asked Listed = false
 is_asked (Asked next) = true
@@ -46,7 +46,7 @@ is_asked Whole = false
 is_asked Purged = false
 
 -- a client is listed, its report isn't whole, and it isn't purged
-abbrev pub is_missing : Standing → Bool
+abbrev pub is_missing : Reporting → Bool
 is_missing Unlisted = false
 is_missing Listed = true
 is_missing (Asked next) = true
@@ -54,7 +54,7 @@ is_missing Whole = false
 is_missing Purged = false
 
 -- a client stands elsewhere, and all else is the same
-abbrev pub with_standing : Collecting → ClientId → Standing → Collecting
+abbrev pub with_standing : Collecting → ClientId → Reporting → Collecting
 with_standing s c standing = record s { standings = slice_set s.standings c.0 standing }
 
 -- a client is listed, unless it was listed before

@@ -12,8 +12,8 @@ use Rattle.token_table.specs.Changes.{Sets, Drops}
 use Rattle.token_table.specs.Series.{Same, with_holds, with_lowered, put_last}
 use Rattle.token_table.specs.Table.{IsGrantable, IsToken, may_hold, held_of}
 use Rattle.rebuild.specs.Collecting.{Collecting, standing_of, with_standing}
-use Rattle.rebuild.specs.declared.standing.Standing.{Standing}
-use Rattle.rebuild.specs.declared.standing.Standing.TheVariants.{Asked, Whole, Purged}
+use Rattle.rebuild.specs.declared.reporting.Reporting.{Reporting}
+use Rattle.rebuild.specs.declared.reporting.Reporting.TheVariants.{Asked, Whole, Purged}
 
 -- a reported hold, judged by the number of the client's last committed flush: what an outstanding flush leaves of it, if that flush is committed
 abbrev pub judged_hold : Reported → ℕ → Hold
@@ -34,7 +34,7 @@ pub record Fits (s : Collecting) (c : ClientId) (p : Piece) (flushed : ℕ) : Ty
   pub apart : All (λ r. IsGrantable s.table c (judged flushed r)) p.holds
 
 -- where a client stands once a piece of its report is taken
-abbrev pub after_piece : Piece → Standing
+abbrev pub after_piece : Piece → Reporting
 after_piece p = if p.last then Whole else Asked (p.index + 1)
 
 -- a piece is taken: its client holds what it says, and its Data Write holds come last

@@ -6,11 +6,11 @@ ghost use Rattle.token_table.specs.Table.{IsToken};
 ghost use Rattle.token_table.specs.Series.{with_holds};
 ghost use Rattle.rebuild.specs.Collecting.{none_listed, standing_of, is_asked, is_to_ask, first_to_ask, listing, next_of, asking, missing_of, is_missing, client, phase_by, phase_of};
 ghost use Rattle.rebuild.specs.Reports.{judged, IsReported, Fits, after_piece, Takes, Releases, Lowers, Grants, Purges};
-ghost use Rattle.rebuild.specs.declared.standing.Standing.TheVariants.{Asked};
+ghost use Rattle.rebuild.specs.declared.reporting.Reporting.TheVariants.{Asked};
 
 use crate::judged::{judged, judged_all};
 use crate::phase::Phase;
-use crate::standing::Standing;
+use crate::reporting::Reporting;
 use cal_base::{CLIENTS, ClientId, INODES, Ino, Oom};
 use request_log::Slot;
 use std::alloc::Global;
@@ -23,7 +23,7 @@ use token_table::TokenTable;
 pub struct Collect {
     alloc: Global,
     window: u8,
-    standings: [Standing; 16],
+    standings: [Reporting; 16],
     table: TokenTable,
 }
 
@@ -44,7 +44,7 @@ impl Collect {
         Ok(Collect {
             alloc,
             window,
-            standings: [Standing::Unlisted; 16],
+            standings: [Reporting::Unlisted; 16],
             table: TokenTable::new(alloc)?,
         })
     }
@@ -55,7 +55,7 @@ impl Collect {
         ensures { self.new ≡ listing self.old c }
     {
         if self.standing(c).is_unlisted() {
-            set(&mut self.standings, c, Standing::Listed);
+            set(&mut self.standings, c, Reporting::Listed);
         }
     }
 
@@ -69,7 +69,7 @@ impl Collect {
     {
         let next = self.next();
         if let Some(c) = next {
-            set(&mut self.standings, c, Standing::Asked(0));
+            set(&mut self.standings, c, Reporting::Asked(0));
         }
         next
     }
@@ -113,7 +113,7 @@ impl Collect {
         ensures { Purges self.old self.new c }
     {
         self.table.drop_client(c);
-        set(&mut self.standings, c, Standing::Purged);
+        set(&mut self.standings, c, Reporting::Purged);
     }
 
     /// Lowers one hold of a client to the lesser of what it is and `to`, as its flush or its release says.
@@ -174,13 +174,13 @@ impl Collect {
     }
 
     /// Where a client stands, while the server collects and after.
-    pub fn standing(&self, c: ClientId) -> Standing
+    pub fn standing(&self, c: ClientId) -> Reporting
         ensures standing { result ≡ standing_of self.now c }
         ensures all { length self.now.standings ≡ CLIENTS }
     {
         match self.standings.get(c.0 as usize) {
             Some(standing) => *standing,
-            None => Standing::Unlisted,
+            None => Reporting::Unlisted,
         }
     }
 
@@ -215,7 +215,7 @@ impl Collect {
     fn is_next(&self, c: ClientId, index: u16) -> bool
         ensures { IsTrue result ↔ (standing_of self.now c ≡ Asked index) }
     {
-        self.standing(c) == Standing::Asked(u32::from(index))
+        self.standing(c) == Reporting::Asked(u32::from(index))
     }
 
     fn are_grantable(&self, c: ClientId, holds: &[Reported], flushed: u64) -> bool
@@ -231,7 +231,7 @@ impl Collect {
 }
 
 /// Puts a client elsewhere.
-fn set(standings: &mut [Standing; 16], c: ClientId, standing: Standing)
+fn set(standings: &mut [Reporting; 16], c: ClientId, standing: Reporting)
     ensures { standings.new ≡ slice_set standings.old c.0 standing }
 {
     if c.0 < CLIENTS {
@@ -251,14 +251,14 @@ fn first(number: Option<usize>) -> Option<ClientId>
     }
 }
 
-fn first_missing(standings: &[Standing]) -> Option<usize>
+fn first_missing(standings: &[Reporting]) -> Option<usize>
     ensures first { result ≡ position is_missing standings.now }
     ensures bound { IfSome result (λ number. number < length standings.now) }
 {
     standings.iter().position(|standing| standing.is_missing())
 }
 
-fn first_unasked(standings: &[Standing]) -> Option<usize>
+fn first_unasked(standings: &[Reporting]) -> Option<usize>
     ensures first { result ≡ position is_to_ask standings.now }
     ensures bound { IfSome result (λ number. number < length standings.now) }
 {
@@ -276,13 +276,13 @@ fn phase_by(missing: Option<ClientId>) -> Phase
 }
 
 /// Where a client stands once a piece of its report is taken.
-fn after_piece(p: &Piece) -> Standing
+fn after_piece(p: &Piece) -> Reporting
     ensures { result ≡ after_piece p.now }
 {
     if p.last {
-        Standing::Whole
+        Reporting::Whole
     } else {
-        Standing::Asked(u32::from(p.index) + 1)
+        Reporting::Asked(u32::from(p.index) + 1)
     }
 }
 

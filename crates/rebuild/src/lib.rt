@@ -14,9 +14,9 @@
 mod collect;
 mod judged;
 mod phase;
-mod standing;
+mod reporting;
 
 pub use collect::Collect;
 pub use judged::judged_hold;
 pub use phase::Phase;
-pub use standing::Standing;
+pub use reporting::Reporting;

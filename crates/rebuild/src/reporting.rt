@@ -3,7 +3,7 @@ ghost use Rattle.rebuild.specs.Collecting.{is_unlisted, is_to_ask, is_asked, is_
 
 /// Where a collecting server stands with a client.
 #[derive(Clone, Copy, Debug, PartialEq, Eq)]
-pub enum Standing {
+pub enum Reporting {
     /// The client isn't listed: nothing is asked of it.
     Unlisted,
     /// It is listed and not yet asked.
@@ -16,14 +16,14 @@ pub enum Standing {
     Purged,
 }
 
-impl Standing {
+impl Reporting {
     /// Whether it isn't listed.
     pub fn is_unlisted(self) -> bool
         ensures { result ≡ is_unlisted self }
     {
         match self {
-            Standing::Unlisted => true,
-            Standing::Listed | Standing::Asked(_) | Standing::Whole | Standing::Purged => false,
+            Reporting::Unlisted => true,
+            Reporting::Listed | Reporting::Asked(_) | Reporting::Whole | Reporting::Purged => false,
         }
     }
 
@@ -32,8 +32,9 @@ impl Standing {
         ensures { result ≡ is_to_ask self }
     {
         match self {
-            Standing::Listed => true,
-            Standing::Unlisted | Standing::Asked(_) | Standing::Whole | Standing::Purged => false,
+            Reporting::Listed => true,
+            Reporting::Unlisted | Reporting::Asked(_) | Reporting::Whole | Reporting::Purged =>
+                false,
         }
     }
 
@@ -42,8 +43,8 @@ impl Standing {
         ensures { result ≡ is_asked self }
     {
         match self {
-            Standing::Asked(_) => true,
-            Standing::Unlisted | Standing::Listed | Standing::Whole | Standing::Purged => false,
+            Reporting::Asked(_) => true,
+            Reporting::Unlisted | Reporting::Listed | Reporting::Whole | Reporting::Purged => false,
         }
     }
 
@@ -52,8 +53,8 @@ impl Standing {
         ensures { result ≡ is_missing self }
     {
         match self {
-            Standing::Listed | Standing::Asked(_) => true,
-            Standing::Unlisted | Standing::Whole | Standing::Purged => false,
+            Reporting::Listed | Reporting::Asked(_) => true,
+            Reporting::Unlisted | Reporting::Whole | Reporting::Purged => false,
         }
     }
 }

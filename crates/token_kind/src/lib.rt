@@ -1,7 +1,14 @@
-//! Tokens, and the records that clients and servers hand one another: what a client may hold of a
-//! file or directory, by class and mode, which holds of two clients conflict, and the flushes,
-//! grants, revokes, releases and reports that move them. A Write conflicts with any hold of another
-//! client in its class on that inode, and nothing else conflicts.
+//! Tokens, and the records that clients and servers hand one another.
+//!
+//! A [`Token`] is a [`Hold`] (none, Read or Write) of a [`Class`] (Names, Data, Attr or Open) on an inode.
+//! [`conflicts`] tells whether holds of two clients may stand together: a Write conflicts with any hold of
+//! another client in its class on that inode, and nothing else conflicts. [`Hold::is_above`] and
+//! [`Hold::lesser`] order holds, and each `number` and `from_number` is the byte in a message; each of
+//! these answers as its definition in specs/Class.antt and specs/Hold.antt says.
+//!
+//! The records are moved by the crates above. What of them the system sends is said here once: `IsFlush`
+//! in specs/Flush.antt, `IsRevoke` and `IsRelease` in specs/Kept.antt. `IsFlushed` says which contents a
+//! flush turns what is kept into, and [`one_flushed`] that there is one such contents alone.
 #![tactic(auto)]
 
 mod block;
@@ -16,8 +23,6 @@ mod piece;
 mod release;
 mod reported;
 mod revoke;
-#[cfg(test)]
-mod tests;
 mod token;
 
 pub use block::Block;

@@ -1,0 +1,29 @@
+ghost use Rattle.std.specs.Prelude.{◌≡◌, ◌≤◌, ◌<◌, ℕ, true};
+ghost use Rattle.cal_base.specs.declared.identity.ClientId.{ClientId};
+ghost use Rattle.cal_base.specs.declared.identity.Ino.{Ino};
+ghost use Rattle.client_cache.specs.Changes.{after_lower, after_start, new_flush};
+ghost use Rattle.client_cache.specs.Follows.{Follows};
+ghost use Rattle.client_cache.specs.IsKnown.{IsKnown};
+ghost use Rattle.client_cache.specs.Known.{Known, inode_at, is_settled};
+ghost use Rattle.client_facts.specs.Leaves.{LeavesHeld};
+ghost use Rattle.client_facts.specs.Lowers.{MayLower};
+ghost use Rattle.token_kind.specs.declared.«class».Class.{Class};
+ghost use Rattle.token_kind.specs.declared.hold.Hold.{Hold};
+ghost use Rattle.tree_law.specs.Tree.{Tree};
+
+/// What a client knows follows the tree through what others do, where that leaves what the client holds.
+pub fn what_others_do_is_followed()
+    ensures { (tree next : Tree) (client : ClientId) (done : ℕ) (known : Known) → LeavesHeld tree next client done known → Follows tree client done known → Follows next client done known }
+{}
+
+/// It follows the tree on when a flush starts of a file of which something is unflushed, and no other
+/// flush is outstanding.
+pub fn a_flush_that_starts_is_followed()
+    ensures { (tree : Tree) (client : ClientId) (done : ℕ) (known : Known) (ino : Ino) (leave_data leave_attr : Hold) → IsKnown known → ino.0 < 512 → is_settled known ino ≡ true → (inode_at known ino).file.unflushed ≡ true → done ≤ known.last_flush → Follows tree client done known → Follows tree client done (after_start known (new_flush known ino leave_data leave_attr)) }
+{}
+
+/// It follows the tree on when a hold is lowered of a file without an outstanding flush and, in Data and
+/// Attr, without unflushed writes.
+pub fn a_lowering_is_followed()
+    ensures { (tree : Tree) (client : ClientId) (done : ℕ) (known : Known) (ino : Ino) (cls : Class) (to : Hold) → IsKnown known → ino.0 < 512 → is_settled known ino ≡ true → MayLower known ino cls → Follows tree client done known → Follows tree client done (after_lower known ino cls to) }
+{}

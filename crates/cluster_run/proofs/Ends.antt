@@ -17,7 +17,7 @@ use Rattle.cluster_run.specs.Printing.{Held, Prints}
 use Rattle.cluster_run.specs.Reading.{Left, IsTaken, IsReadAll, IsFailed}
 use Rattle.cluster_run.specs.Running.{RanOut, unbegun, behind, BeginsRun, some_lines, all_lines, RunsLines}
 use Rattle.cluster_run.specs.ScriptRun.{RunsScript, ToldOut, untold, run_out, BeginsScript, run, refusal, TellsBad}
-use Rattle.cluster_run.specs.Run.{Edge, EndsSo, IsRunCommand, IsCutShort, IsStopped, Begins, usage, read_fault, bad_script, steps, ended, nothing, whole_steps}
+use Rattle.cluster_run.specs.Run.{Edge, EndsSo, IsRunCommand, TookAll, IsCutShort, IsStopped, Begins, usage, read_fault, bad_script, steps, ended, nothing, whole_steps}
 use Rattle.cluster_run.specs.declared.print.PrintError.{PrintError}
 use Rattle.cluster_run.specs.declared.print.PrintError.TheVariants.{WriteFault as NotWritten, OutOfMemory as NoRoom}
 use Rattle.cluster_run.specs.declared.status.Status.{Status}
@@ -52,7 +52,7 @@ cut words before now text begins taken rose = record { text = text; begins = beg
 -- the words are no command, and that isn't printed whole
 pub usage_failed : (words : List (List ℕ)) (source : Left) (before now : Held) (error : PrintError) (status : Status) → status ≡ status_of error → ¬ (IsRunCommand words)
     → Prints before (line (codes "Usage")) (Err error) now → EndsSo words (edge source before) (edge source now) status
-usage_failed words source before now NotWritten status e other prints = rw e (cut words (edge source before) (edge source now) _ (usage other) prints.0 prints.1)
+usage_failed words source before now NotWritten status e other prints = rw e (cut words (edge source before) (edge source now) _ (usage other refl) prints.0 prints.1)
 usage_failed words source before now NoRoom status e other prints = rw e (nothing prints.0)
 
 -- the source failed, and that isn't printed whole
@@ -61,25 +61,28 @@ pub read_fault_failed : (words : List (List ℕ)) (first last : Left) (before no
 read_fault_failed words first last before now NotWritten status e is failed prints = rw e (cut words (edge first before) (edge last now) _ (read_fault is failed.rose) prints.0 prints.1)
 read_fault_failed words first last before now NoRoom status e is failed prints = rw e (nothing prints.0)
 
-begins_run : (words : List (List ℕ)) (first last : Left) (before now : Held) (bytes : List ℕ) (script : Script) (text : List ℕ) → IsRunCommand words → IsTaken first bytes last → IsScript bytes script → BeginsRun script.lines text
-    → Begins words (edge first before) (edge last now) text
-begins_run words first last before now bytes script _ is read is_script (some_lines made carry) = steps bytes script made is read.taken is_script carry
-begins_run words first last before now bytes script _ is read is_script (all_lines made carry) = ended bytes script made is read.taken is_script carry
+all_read : (first last : Left) (before now : Held) (bytes : List ℕ) → IsReadAll first bytes last → TookAll (edge first before) (edge last now) bytes
+all_read first last before now bytes read = record { taken = read.read.taken; ended = read.ended }
 
-begins_script : (words : List (List ℕ)) (first last : Left) (before now : Held) (bytes text : List ℕ) → IsRunCommand words → IsTaken first bytes last → BeginsScript bytes text → Begins words (edge first before) (edge last now) text
+begins_run : (words : List (List ℕ)) (first last : Left) (before now : Held) (bytes : List ℕ) (script : Script) (text : List ℕ) → IsRunCommand words → IsReadAll first bytes last → IsScript bytes script → BeginsRun script.lines text
+    → Begins words (edge first before) (edge last now) text
+begins_run words first last before now bytes script _ is read is_script (some_lines made carry) = steps bytes script made is (all_read first last before now bytes read) is_script carry
+begins_run words first last before now bytes script _ is read is_script (all_lines made carry) = ended bytes script made is (all_read first last before now bytes read) is_script carry
+
+begins_script : (words : List (List ℕ)) (first last : Left) (before now : Held) (bytes text : List ℕ) → IsRunCommand words → IsReadAll first bytes last → BeginsScript bytes text → Begins words (edge first before) (edge last now) text
 begins_script words first last before now bytes _ is read (run script text is_script begins) = begins_run words first last before now bytes script text is read is_script begins
-begins_script words first last before now bytes _ is read (refusal bad is_bad) = bad_script bytes bad is read.taken is_bad
+begins_script words first last before now bytes _ is read (refusal bad is_bad) = bad_script bytes bad is (all_read first last before now bytes read) is_bad
 
 at_end : (left : Option (List ℕ)) (bytes : List ℕ) → length bytes ≤ 67108864 → IsAtEnd left ⊎ (length bytes ≡ 67108865) → IsAtEnd left
 at_end left bytes fits (inl end) = end
 at_end left bytes fits (inr many) = absurd (omega arith)
 
-run_stopped : (words : List (List ℕ)) (first last : Left) (before now : Held) (bytes : List ℕ) (script : Script) → IsRunCommand words → IsTaken first bytes last → IsScript bytes script → RanOut script.lines before now
+run_stopped : (words : List (List ℕ)) (first last : Left) (before now : Held) (bytes : List ℕ) (script : Script) → IsRunCommand words → IsReadAll first bytes last → IsScript bytes script → RanOut script.lines before now
     → IsStopped words (edge first before) (edge last now)
 run_stopped words first last before now bytes script is read is_script (unbegun same) = nothing same
-run_stopped words first last before now bytes script is read is_script (behind made carry printed) = whole_steps made is (record { input = bytes; script = script; read = read.taken; is_script = is_script; carry_out = carry }) printed
+run_stopped words first last before now bytes script is read is_script (behind made carry printed) = whole_steps made is (record { input = bytes; script = script; read = all_read first last before now bytes read; is_script = is_script; carry_out = carry }) printed
 
-script_stopped : (words : List (List ℕ)) (first last : Left) (before now : Held) (bytes : List ℕ) → IsRunCommand words → IsTaken first bytes last → ToldOut bytes before now → IsStopped words (edge first before) (edge last now)
+script_stopped : (words : List (List ℕ)) (first last : Left) (before now : Held) (bytes : List ℕ) → IsRunCommand words → IsReadAll first bytes last → ToldOut bytes before now → IsStopped words (edge first before) (edge last now)
 script_stopped words first last before now bytes is read (untold same) = nothing same
 script_stopped words first last before now bytes is read (run_out script is_script ran) = run_stopped words first last before now bytes script is read is_script ran
 
@@ -102,8 +105,8 @@ script_ends words first last before now bytes Fine is read ran = (
 script_ends words first last before now bytes Usage is read ran = absurd ran
 script_ends words first last before now bytes BadScript is read ran = (is, record { input = bytes; bad = ran.bad; read = read.read.taken; ended = read.ended; is_bad = ran.is_bad; printed = ran.printed })
 script_ends words first last before now bytes ReadFault is read ran = absurd ran
-script_ends words first last before now bytes WriteFault is read ran = cut words (edge first before) (edge last now) ran.text (begins_script words first last before now bytes ran.text is read.read ran.begins) ran.takes ran.rose
-script_ends words first last before now bytes OutOfMemory is read ran = script_stopped words first last before now bytes is read.read ran
+script_ends words first last before now bytes WriteFault is read ran = cut words (edge first before) (edge last now) ran.text (begins_script words first last before now bytes ran.text is read ran.begins) ran.takes ran.rose
+script_ends words first last before now bytes OutOfMemory is read ran = script_stopped words first last before now bytes is read ran
 
 -- the same of the bytes as they were handed on
 pub bytes_end : (words : List (List ℕ)) (first last : Left) (before now : Held) (bytes given : List ℕ) (status : Status) → IsRunCommand words → IsReadAll first bytes last → given ≡ bytes → RunsScript given before status now

@@ -28,6 +28,11 @@ Wrote before now text = now.held ≡ append_known before.held text
 abbrev pub Took : Edge → Edge → List ℕ → Type 0
 Took before now input = before.left ≡ prepend_known input now.left
 
+-- these bytes were taken, and are all that the source had, or one more than a script may have
+pub record TookAll (before now : Edge) (input : List ℕ) : Type 0 where
+  pub taken : Took before now input
+  pub ended : IsAtEnd now.left ⊎ (length input ≡ 67108865)
+
 -- the command is the one word `run`
 abbrev pub IsRunCommand : List (List ℕ) → Type 0
 IsRunCommand words = words ≡ codes "run" ∷ []
@@ -75,11 +80,11 @@ pub record IsUnread (before now : Edge) : Type 0 where
 
 -- a text that a run begins to print
 pub data Begins (words : List (List ℕ)) (before now : Edge) : List ℕ → Type 0 where
-  usage : ¬ (IsRunCommand words) → Begins words before now (line (codes "Usage"))
+  usage : ¬ (IsRunCommand words) → now.left ≡ before.left → Begins words before now (line (codes "Usage"))
   read_fault : IsRunCommand words → Rose before.source_faults now.source_faults → Begins words before now (line (codes "ReadFault"))
-  bad_script : (input : List ℕ) (bad : BadLine) → IsRunCommand words → Took before now input → IsFirstBad (lines_of input) bad → Begins words before now (line (bad_line bad))
-  steps : (input : List ℕ) (script : Script) (steps : List Step) → IsRunCommand words → Took before now input → IsScript input script → CarryOut script.lines steps → Begins words before now (steps_text steps)
-  ended : (input : List ℕ) (script : Script) (steps : List Step) → IsRunCommand words → Took before now input → IsScript input script → CarryOutAll script.lines steps
+  bad_script : (input : List ℕ) (bad : BadLine) → IsRunCommand words → TookAll before now input → IsFirstBad (lines_of input) bad → Begins words before now (line (bad_line bad))
+  steps : (input : List ℕ) (script : Script) (steps : List Step) → IsRunCommand words → TookAll before now input → IsScript input script → CarryOut script.lines steps → Begins words before now (steps_text steps)
+  ended : (input : List ℕ) (script : Script) (steps : List Step) → IsRunCommand words → TookAll before now input → IsScript input script → CarryOutAll script.lines steps
       → Begins words before now (run_text steps)
 
 -- the sink failed while a text was printed, of which it has got a prefix
@@ -94,7 +99,7 @@ pub record IsCutShort (words : List (List ℕ)) (before now : Edge) : Type 0 whe
 pub record RanSome (before now : Edge) (steps : List Step) : Type 0 where
   pub input : List ℕ
   pub script : Script
-  pub read : Took before now input
+  pub read : TookAll before now input
   pub is_script : IsScript input script
   pub carry_out : CarryOut script.lines steps
 

@@ -56,3 +56,8 @@ pub record LeavesNames (tree next : Tree) (client : ClientId) (known : Known) : 
 pub record LeavesHeld (tree next : Tree) (client : ClientId) (done : ℕ) (known : Known) : Type 0 where
   pub names : LeavesNames tree next client known
   pub files : (ino : Ino) (file : FileState) → node_at next ino ≡ Some (Regular file) → LeavesNode client done (inode_at known ino) (flush_at known ino) (node_at tree ino) file
+
+-- a flush leaves nothing of its file that isn't held
+pub record LeavesOfHeld (inode : CachedInode) (flush : Flush) : Type 0 where
+  pub bytes : is_held flush.leave_data ≡ true → is_held inode.holds.contents ≡ true
+  pub size : is_held flush.leave_attr ≡ true → is_held inode.holds.attr ≡ true

@@ -1,13 +1,14 @@
-ghost use Rattle.std.specs.Prelude.{◌≡◌, ◌≤◌, ◌<◌, ℕ, true};
+ghost use Rattle.std.specs.Prelude.{◌≡◌, ◌≤◌, ◌<◌, ℕ, true, Some};
 ghost use Rattle.cal_base.specs.declared.identity.ClientId.{ClientId};
 ghost use Rattle.cal_base.specs.declared.identity.Ino.{Ino};
-ghost use Rattle.client_cache.specs.Changes.{after_lower, after_start, new_flush};
+ghost use Rattle.client_cache.specs.Changes.{after_flushed, after_lower, after_start, flush_numbered, new_flush};
 ghost use Rattle.client_cache.specs.Follows.{Follows};
 ghost use Rattle.client_cache.specs.IsKnown.{IsKnown};
 ghost use Rattle.client_cache.specs.Known.{Known, inode_at, is_settled};
-ghost use Rattle.client_facts.specs.Leaves.{LeavesHeld};
+ghost use Rattle.client_facts.specs.Leaves.{LeavesHeld, LeavesOfHeld};
 ghost use Rattle.client_facts.specs.Lowers.{MayLower};
 ghost use Rattle.token_kind.specs.declared.«class».Class.{Class};
+ghost use Rattle.token_kind.specs.declared.flush.Flush.{Flush};
 ghost use Rattle.token_kind.specs.declared.hold.Hold.{Hold};
 ghost use Rattle.tree_law.specs.Tree.{Tree};
 
@@ -20,6 +21,12 @@ pub fn what_others_do_is_followed()
 /// flush is outstanding.
 pub fn a_flush_that_starts_is_followed()
     ensures { (tree : Tree) (client : ClientId) (done : ℕ) (known : Known) (ino : Ino) (leave_data leave_attr : Hold) → IsKnown known → ino.0 < 512 → is_settled known ino ≡ true → (inode_at known ino).file.unflushed ≡ true → done ≤ known.last_flush → Follows tree client done known → Follows tree client done (after_start known (new_flush known ino leave_data leave_attr)) }
+{}
+
+/// It follows the tree on when the client is told that a flush is done, which is in the tree, and leaves
+/// nothing that isn't held.
+pub fn a_flush_that_is_done_is_followed()
+    ensures { (tree : Tree) (client : ClientId) (done : ℕ) (known : Known) (flush : Flush) → IsKnown known → flush_numbered known flush.number ≡ Some flush → flush.number ≤ done → LeavesOfHeld (inode_at known flush.ino) flush → Follows tree client done known → Follows tree client done (after_flushed known flush.number) }
 {}
 
 /// It follows the tree on when a hold is lowered of a file without an outstanding flush and, in Data and

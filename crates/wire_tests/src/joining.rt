@@ -1,5 +1,5 @@
-use crate::{Members, NotSo};
 use cal_base::{ClientId, ServerId, View};
+use membership::{Members, NotSo};
 use std::test::Fail;
 
 #[test]

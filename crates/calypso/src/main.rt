@@ -1,19 +1,43 @@
 //! The program `calypso`: runs a script of file calls from standard input and prints what came of it.
+//! With the one word `run` it reads a script from standard input, carries it out, prints its steps to
+//! standard output, and ends with the status that [`run_cluster`] answers; with any other words,
+//! those that are no UTF-8 included, it prints `Usage` and ends with 2. What a run reads, prints and
+//! answers is promised by the contract of `run_cluster`; this crate only hands it the words, the
+//! input and the output of the process.
 #![tactic(auto)]
 
 use cal_base::{Oom, StdSink, StdSource};
 use cluster_run::{Status, run_cluster};
+use std::env::FillError;
+use std::io;
 use std::process::ExitCode;
 use std::rt::Env;
-use std::{env, io};
+
+/// More bytes than a word of any command has.
+const WORD_BYTES: usize = 64;
+
+/// The word of the command line at this place, where 0 is the program's name; none behind the last. A
+/// word that is no UTF-8, or too long to be one of a command, is the empty word: like it, it is no
+/// word of a command.
+fn word(rt: &(impl Env + AllocGlobal), index: usize) -> Result<Option<String>, Oom> {
+    let mut buffer = [0; WORD_BYTES];
+    let length = match rt.arg(index, &mut buffer) {
+        Ok(length) => length,
+        Err(FillError::TooLong) => 0,
+        Err(FillError::NotPresent) => return Ok(None),
+    };
+    let bytes = buffer.get(..length).unwrap_or(&[]);
+    let text = str::from_utf8(bytes).unwrap_or("");
+    Ok(Some(String::from_str(rt.alloc(), text)?))
+}
 
 /// The words of the command line behind the program's name.
 fn words(rt: &(impl Env + AllocGlobal)) -> Result<Vec<String>, Oom> {
     let mut words = Vec::new(rt.alloc());
-    let Ok(args) = env::args(rt) else {
-        return Err(Oom);
-    };
-    for word in args.skip(1) {
+    for index in 1..usize::MAX {
+        let Some(word) = word(rt, index)? else {
+            break;
+        };
         words.push(word)?;
     }
     Ok(words)

@@ -21,7 +21,7 @@ use Rattle.client_cache.specs.IsKnown.{IsKnown, IsLater}
 use Rattle.client_cache.specs.Known.{Known, flush_at, inode_at, is_flush_of}
 
 -- what is found is one of all
-found_is : (test : Flush → Bool) (P : Flush → Type 0) (flushes : List Flush) (flush : Flush) → find test flushes ≡ Some flush → All P flushes → P flush
+pub found_is : (test : Flush → Bool) (P : Flush → Type 0) (flushes : List Flush) (flush : Flush) → find test flushes ≡ Some flush → All P flushes → P flush
 found_is test P [] flush e all = absurd (cc)
 found_is test P (head ∷ flushes) flush e all = by (test head) (λ e. found_is test P flushes flush e (λ i d within. all (suc i) d (omega (arith, within)))) e
   where
@@ -31,6 +31,18 @@ found_is test P (head ∷ flushes) flush e all = by (test head) (λ e. found_is 
         same : (a b : Flush) → Some a ≡ Some b → a ≡ b
         same a b e = cc
     by false others e = others e
+
+-- what is found passes the test
+pub found_passes : (test : Flush → Bool) (flushes : List Flush) (flush : Flush) → find test flushes ≡ Some flush → test flush ≡ true
+found_passes test [] flush e = absurd (cc)
+found_passes test (head ∷ flushes) flush e = by (test head) refl (λ e. found_passes test flushes flush e) e
+  where
+    same : (a b : Flush) → Some a ≡ Some b → a ≡ b
+    same a b e = cc
+
+    by : (b : Bool) → test head ≡ b → (find test flushes ≡ Some flush → test flush ≡ true) → cond b (Some head) (find test flushes) ≡ Some flush → test flush ≡ true
+    by true is others e = subst (λ (f : Flush). test f ≡ true) (same head flush e) is
+    by false is others e = others e
 
 -- of flushes in the order of their numbers, one a file, that with a number is the one of its file
 abbrev pub IsTheOne : ℕ → Ino → Flush → Type 0
@@ -42,7 +54,7 @@ one_later number head other is later =
     let after : head.number < other.number = later.number in
     ne_eqb other.number number (λ same. absurd (omega (arith, n, same, after))) ∙ sym (ne_eqb other.ino.0 head.ino.0 (λ same. later.file (sym same)))
 
-one_of_file : (number : ℕ) (flushes : List Flush) (flush : Flush) → AllPairs IsLater flushes → find (is_numbered number) flushes ≡ Some flush → All (IsTheOne number flush.ino) flushes
+pub one_of_file : (number : ℕ) (flushes : List Flush) (flush : Flush) → AllPairs IsLater flushes → find (is_numbered number) flushes ≡ Some flush → All (IsTheOne number flush.ino) flushes
 one_of_file number [] flush order e = absurd (cc)
 one_of_file number (head ∷ flushes) flush order e = by (is_numbered number head) refl
     (λ e. one_of_file number flushes flush (λ i j d lower within. order (suc i) (suc j) d (omega (arith, lower)) (omega (arith, within))) e) e
@@ -60,7 +72,7 @@ one_of_file number (head ∷ flushes) flush order e = by (is_numbered number hea
     by false is others e zero d within = is ∙ sym (ne_eqb head.ino.0 flush.ino.0 (found_is (is_numbered number) (λ other. head.ino.0 ≢ other.ino.0) flushes flush e (λ k d within. (later k d within).file)))
     by false is others e (suc k) d within = others e k d (omega (arith, within))
 
-find_same : (p q : Flush → Bool) (flushes : List Flush) → All (λ flush. p flush ≡ q flush) flushes → find p flushes ≡ find q flushes
+pub find_same : (p q : Flush → Bool) (flushes : List Flush) → All (λ flush. p flush ≡ q flush) flushes → find p flushes ≡ find q flushes
 find_same p q [] same = refl
 find_same p q (head ∷ flushes) same = ap (λ b. cond b (Some head) (find p flushes)) (same 0 head (omega arith)) ∙ ap (cond (q head) (Some head)) (find_same p q flushes (λ i d within. same (suc i) d (omega (arith, within))))
 
@@ -87,7 +99,7 @@ find_others number ino other (head ∷ flushes) apart one = by (is_numbered numb
         (sym (ne_eqb head.ino.0 other.0 (λ same. apart (sym same ∙ eqb-true head.ino.0 ino.0 (sym (one 0 head (omega arith)) ∙ e)))))
     by false e rest = ap (cond (is_flush_of other head) (Some head)) rest
 
-neither : (a b : Bool) → a ≡ false → b ≡ false → (a || b) ≡ false
+pub neither : (a b : Bool) → a ≡ false → b ≡ false → (a || b) ≡ false
 neither true b e f = absurd (true≢false e)
 neither false b e f = f
 

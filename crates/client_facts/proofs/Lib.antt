@@ -1,3 +1,4 @@
 pub mod FileSteps
 pub mod KnownSteps
 pub mod FlushSteps
+pub mod EntrySteps

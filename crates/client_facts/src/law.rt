@@ -1,16 +1,18 @@
-ghost use Rattle.std.specs.Prelude.{◌≡◌, ◌≤◌, ◌<◌, ℕ, true, Some};
+ghost use Rattle.std.specs.Prelude.{◌≡◌, ◌≤◌, ◌<◌, ◌+◌, ℕ, true, Some};
 ghost use Rattle.cal_base.specs.declared.identity.ClientId.{ClientId};
 ghost use Rattle.cal_base.specs.declared.identity.Ino.{Ino};
 ghost use Rattle.client_cache.specs.Changes.{after_flushed, after_lower, after_start, flush_numbered, new_flush};
 ghost use Rattle.client_cache.specs.Follows.{Follows};
 ghost use Rattle.client_cache.specs.IsKnown.{IsKnown};
 ghost use Rattle.client_cache.specs.Known.{Known, inode_at, is_settled};
-ghost use Rattle.client_facts.specs.Leaves.{LeavesHeld, LeavesOfHeld};
+ghost use Rattle.client_facts.specs.Leaves.{LeavesHeld, LeavesNames, LeavesOfHeld};
 ghost use Rattle.client_facts.specs.Lowers.{MayLower};
 ghost use Rattle.token_kind.specs.declared.«class».Class.{Class};
 ghost use Rattle.token_kind.specs.declared.flush.Flush.{Flush};
 ghost use Rattle.token_kind.specs.declared.hold.Hold.{Hold};
+ghost use Rattle.tree_law.specs.After.{after};
 ghost use Rattle.tree_law.specs.Tree.{Tree};
+ghost use Rattle.tree_law.specs.declared.entry.Entry.TheVariants.{Flush as Flushed};
 
 /// What a client knows follows the tree through what others do, where that leaves what the client holds.
 pub fn what_others_do_is_followed()
@@ -21,6 +23,12 @@ pub fn what_others_do_is_followed()
 /// flush is outstanding.
 pub fn a_flush_that_starts_is_followed()
     ensures { (tree : Tree) (client : ClientId) (done : ℕ) (known : Known) (ino : Ino) (leave_data leave_attr : Hold) → IsKnown known → ino.0 < 512 → is_settled known ino ≡ true → (inode_at known ino).file.unflushed ≡ true → done ≤ known.last_flush → Follows tree client done known → Follows tree client done (after_start known (new_flush known ino leave_data leave_attr)) }
+{}
+
+/// It follows the tree with the client's next flush when that comes to be in it, where the root, the
+/// directories whose entries are held and the kinds of what they and the client's descriptors stand for stay.
+pub fn a_flush_in_the_tree_is_followed()
+    ensures { (tree : Tree) (client : ClientId) (done : ℕ) (known : Known) (flush : Flush) → IsKnown known → flush_numbered known flush.number ≡ Some flush → flush.number ≡ done + 1 → LeavesNames tree (after tree (Flushed client flush.ino)) client known → Follows tree client done known → Follows (after tree (Flushed client flush.ino)) client (done + 1) known }
 {}
 
 /// It follows the tree on when the client is told that a flush is done, which is in the tree, and leaves

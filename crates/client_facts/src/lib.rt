@@ -4,7 +4,8 @@
 //! What is known follows a tree (`Follows`) that has the client's flushes up to a number. It goes on to
 //! follow it
 //! - through what others do, as far as that leaves what is held (`what_others_do_is_followed`);
-//! - when a flush starts (`a_flush_that_starts_is_followed`), and when the client is told that it is done
+//! - when a flush starts (`a_flush_that_starts_is_followed`), when it comes to be in the tree
+//!   (`a_flush_in_the_tree_is_followed`), and when the client is told that it is done
 //!   (`a_flush_that_is_done_is_followed`);
 //! - when a hold is lowered (`a_lowering_is_followed`).
 #![tactic(auto)]
@@ -12,6 +13,6 @@
 mod law;
 
 pub use law::{
-    a_flush_that_is_done_is_followed, a_flush_that_starts_is_followed, a_lowering_is_followed,
-    what_others_do_is_followed,
+    a_flush_in_the_tree_is_followed, a_flush_that_is_done_is_followed,
+    a_flush_that_starts_is_followed, a_lowering_is_followed, what_others_do_is_followed,
 };

@@ -7,4 +7,5 @@ pub mod Moments
 pub mod OpeningLemmas
 pub mod Sectors
 pub mod Replaying
+pub mod Spelling
 pub mod Stable

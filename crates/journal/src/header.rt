@@ -1,7 +1,8 @@
-ghost use Rattle.std.specs.Prelude.{◌≡◌, ◌≤◌, ◌<◌, ◌+◌, ◌*◌, length, drop, nat_eq, slice_index};
+ghost use Rattle.std.specs.Prelude.{◌≡◌, ◌≤◌, ◌<◌, ◌+◌, ◌*◌, ℕ, IsTrue, List, length, drop, nat_eq, slice_index};
 ghost use Rattle.std.specs.List.{list_all};
 ghost use Rattle.byteorder.specs.Endian.{big_number};
-ghost use Rattle.shared_disk.specs.Homes.{are_ascending, is_home};
+ghost use Rattle.cal_base.specs.Limits.{block_size};
+ghost use Rattle.shared_disk.specs.Homes.{IsTransaction, are_ascending, is_home, sectors_of};
 ghost use Rattle.journal.specs.Layout.{header_of, is_header, homes_in};
 
 use cal_base::{SECTORS, Sector};
@@ -75,3 +76,12 @@ fn may_be_home(sector: u32) -> bool
 {
     sector == 0 || 19 <= sector && sector < SECTORS
 }
+
+/// A header has one spelling. Transactions with the same header have the same homes, and a sector that
+/// is in the grammar of a header is, byte for byte, the header of those homes that it names.
+pub fn a_header_has_one_spelling()
+    ensures same { (some others : List (ℕ × List ℕ)) → IsTransaction some → IsTransaction others
+        → header_of some ≡ header_of others → sectors_of some ≡ sectors_of others }
+    ensures spelled { (header : List ℕ) (homes : List (ℕ × List ℕ)) → length header ≡ block_size → ((i : ℕ) → slice_index header i < 256)
+        → IsTrue (is_header header) → homes_in header ≡ sectors_of homes → header ≡ header_of homes }
+{}

@@ -8,6 +8,7 @@
 //!   replay that is cut leaves the same volume (`replay_is_stable`).
 //! - `is_commit_opened` tells by the writes that a port kept which of the two it is. `commit_length` is
 //!   how many writes a commit makes, so that the place of the next commit's writes is known.
+//! - A header that names the same homes is the same bytes (`a_header_has_one_spelling`).
 #![tactic(auto)]
 
 mod commits;
@@ -20,6 +21,7 @@ mod write_back;
 mod write_one;
 
 pub use commits::{commit, commit_is_atomic};
+pub use header::a_header_has_one_spelling;
 pub use openings::{an_opening_stands_at_its_place, commit_length, is_commit_opened};
 pub use replay_halt::ReplayHalt;
 pub use replays::{replay, replay_is_stable};

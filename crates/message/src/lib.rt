@@ -22,8 +22,6 @@ mod names;
 mod put;
 mod read;
 mod stop;
-#[cfg(test)]
-mod tests;
 mod tokens;
 
 pub use encode_message::{encode, encode_acquire, encode_change, encode_flush};

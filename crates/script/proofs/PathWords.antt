@@ -7,21 +7,12 @@ use Rattle.std.proofs.lemmas.List.Elements.{All-tail}
 use Rattle.std.proofs.lemmas.List.Sums.{AllPass-from_list_all, list_all-from_AllPass}
 use Rattle.std.proofs.lemmas.List.Splits.{slice_split_none, slice_split_at}
 use Rattle.std.proofs.lemmas.Slice.Eq.{bytes_eq-Decides}
-use Rattle.tree_law.specs.Path.{IsPath, IsName, IsNameByte, slashed, path_text, IsNoPathText}
-use Rattle.script.specs.Places.{is_name, names_in, is_path, path_in}
+use Rattle.tree_law.specs.NameTest.{is_name}
+use Rattle.tree_law.specs.Path.{IsPath, IsName, slashed, path_text, IsNoPathText}
+use Rattle.tree_law.proofs.NameTests.{name_passes, passes_name}
+use Rattle.tree_law.proofs.PathParts.{parts_of_slashed}
+use Rattle.script.specs.Places.{names_in, is_path, path_in}
 use Rattle.script.specs.declared.bad_line.BadWhy.TheVariants.{Path}
-
-is_other : (x : ℕ) → x ≢ 47 → (x == 47) ≡ false
-is_other x apart = grind (arith, nat_tests)
-
-without_slash : (name : List ℕ) → IsName name → All (λ byte. (byte == 47) ≡ false) name
-without_slash name is = λ k d h. is_other _ (is.graphic k d h).2
-
-parts_of_slashed : (name : List ℕ) (names : List (List ℕ)) → All IsName (name ∷ names) → slice_split (λ byte. byte == 47) (name ++ slashed names) ≡ name ∷ names
-parts_of_slashed name [] good = rw append-nil (slice_split_none (λ byte. byte == 47) name (without_slash name (good 0 [] (omega arith))))
-parts_of_slashed name (next ∷ names) good =
-    slice_split_at (λ byte. byte == 47) name 47 (next ++ slashed names) (without_slash name (good 0 [] (omega arith))) refl
-    ∙ ap (λ (rest : List (List ℕ)). name ∷ rest) (parts_of_slashed next names (All-tail IsName name (next ∷ names) good))
 
 from_tail : (x : ℕ) (parts : List (List ℕ)) (text : List ℕ) → slashed parts ≡ 47 ∷ text → slashed (onto_first x parts) ≡ 47 ∷ (x ∷ text)
 from_tail x [] text e = cc
@@ -39,56 +30,17 @@ path_text_of_slashed : (names : List (List ℕ)) (text : List ℕ) → slashed n
 path_text_of_slashed [] text e = cc
 path_text_of_slashed (name ∷ names) text e = e
 
--- names and paths as tests and as definitions
-
-is_byte : (byte : ℕ) → IsNameByte byte → (nat_le 33 byte && nat_le byte 126 && not (byte == 47)) ≡ true
-is_byte byte (low, high, apart) = grind (arith, nat_tests)
-
-byte_is : (byte : ℕ) → (nat_le 33 byte && nat_le byte 126 && not (byte == 47)) ≡ true → IsNameByte byte
-byte_is byte e = let low : 33 ≤ byte = grind (arith, nat_tests) in let high : byte ≤ 126 = grind (arith, nat_tests) in let apart : byte ≢ 47 = λ same. grind (arith, nat_tests) in (low, high, apart)
-
-not_same : (b : Bool) → (b ≡ true → ⊥) → not b ≡ true
-not_same true h = absurd (h refl)
-not_same false h = refl
-
-not_so : (b : Bool) → not b ≡ true → b ≡ true → ⊥
-not_so true e h = grind arith
-not_so false e h = grind arith
-
-pub is_named : (name : List ℕ) → IsName name → is_name name ≡ true
-is_named name is =
-    let least : nat_le 1 (length name) ≡ true = grind (arith, nat_tests, is.from_one) in
-    let most : nat_le (length name) 27 ≡ true = grind (arith, nat_tests, is.to_twenty_seven) in
-    let plain : list_all (λ byte. nat_le 33 byte && nat_le byte 126 && not (byte == 47)) name ≡ true = list_all-from_AllPass _ name (λ k d h. is_byte _ (is.graphic k d h)) in
-    let dot = not_same _ (λ e. is.not_dot ((bytes_eq-Decides name (codes ".")).0 e)) in
-    let dots = not_same _ (λ e. is.not_dot_dot ((bytes_eq-Decides name (codes "..")).0 e)) in
-    and_from _ _ (and_from _ _ (and_from _ _ (and_from _ _ least most) plain) dot) dots
-
-name_is : (name : List ℕ) → is_name name ≡ true → IsName name
-name_is name e =
-    let four = and_parts _ _ e in
-    let three = and_parts _ _ four.0 in
-    let two = and_parts _ _ three.0 in
-    let one = and_parts _ _ two.0 in
-    let least : nat_le 1 (length name) ≡ true = one.0 in
-    let most : nat_le (length name) 27 ≡ true = one.1 in
-    record {
-      from_one = grind (arith, nat_tests);
-      to_twenty_seven = grind (arith, nat_tests);
-      graphic = λ k d h. byte_is _ (AllPass-from_list_all _ name two.1 k d h);
-      not_dot = λ same. not_so _ three.1 ((bytes_eq-Decides name (codes ".")).1 same);
-      not_dot_dot = λ same. not_so _ four.1 ((bytes_eq-Decides name (codes "..")).1 same);
-    }
+-- paths as a test and as a definition
 
 is_a_path : (names : List (List ℕ)) → IsPath names → is_path names ≡ true
-is_a_path names is = and_from _ _ (grind (arith, nat_tests, is.to_sixteen)) (list_all-from_AllPass is_name names (λ k d h. is_named _ (is.names k d h)))
+is_a_path names is = and_from _ _ (grind (arith, nat_tests, is.to_sixteen)) (list_all-from_AllPass is_name names (λ k d h. name_passes _ (is.names k d h)))
 
 -- names that pass for a path are one
 pub path_is : (names : List (List ℕ)) → is_path names ≡ true → IsPath names
 path_is names e =
     let both = and_parts _ _ e in
     let few : nat_le (length names) 16 ≡ true = both.0 in
-    record { to_sixteen = grind (arith, nat_tests); names = λ k d h. name_is _ (AllPass-from_list_all is_name names both.1 k d h) }
+    record { to_sixteen = grind (arith, nat_tests); names = λ k d h. passes_name _ (AllPass-from_list_all is_name names both.1 k d h) }
 
 names_of_slashed : (name : List ℕ) (names : List (List ℕ)) → All IsName (name ∷ names) → names_in (name ++ slashed names) ≡ name ∷ names
 names_of_slashed [] names good = absurd (omega (arith, (good 0 [] (omega arith)).from_one))

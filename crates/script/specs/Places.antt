@@ -1,20 +1,17 @@
 -- What a word has to be at a place of a line: a path, a client, a server, a node, a mode.
-use Rattle.std.specs.Prelude.{ℕ, ◌==◌, ◌&&◌, not, Bool, List, [], ◌∷◌, length, nat_le, if◌then◌else◌, Result, Ok, Err, codes, bytes_eq}
+use Rattle.std.specs.Prelude.{ℕ, ◌==◌, ◌&&◌, Bool, List, [], ◌∷◌, length, nat_le, if◌then◌else◌, Result, Ok, Err, codes, bytes_eq}
 use Rattle.std.specs.List.{list_all, slice_split}
 use Rattle.cal_base.specs.declared.identity.ClientId.{ClientId}
 use Rattle.cal_base.specs.declared.identity.ServerId.{ServerId}
 use Rattle.cal_base.specs.declared.identity.ServerId.TheVariants.{A, B}
 use Rattle.cal_base.specs.declared.identity.NodeId.{NodeId}
 use Rattle.cal_base.specs.declared.identity.NodeId.TheVariants.{Client, Server}
+use Rattle.tree_law.specs.NameTest.{is_name}
 use Rattle.tree_law.specs.declared.mode.Mode.{Mode}
 use Rattle.tree_law.specs.declared.mode.Mode.TheVariants.{R, W, Rw}
 use Rattle.script.specs.Numbers.{number_in}
 use Rattle.script.specs.declared.bad_line.BadWhy.{BadWhy}
 use Rattle.script.specs.declared.bad_line.BadWhy.TheVariants.{Word, Path}
-
--- 1 to 27 graphic bytes of ASCII other than `/`, and neither `.` nor `..`
-abbrev pub is_name : List ℕ → Bool
-is_name name = nat_le 1 (length name) && nat_le (length name) 27 && list_all (λ byte. nat_le 33 byte && nat_le byte 126 && not (byte == 47)) name && not (bytes_eq name (codes ".")) && not (bytes_eq name (codes ".."))
 
 -- the names behind the first slash
 abbrev pub names_in : List ℕ → List (List ℕ)

@@ -1,0 +1,5 @@
+mod Packets
+mod Counts
+mod Prefix
+mod Acks
+mod Bodies

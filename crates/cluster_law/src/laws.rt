@@ -1,0 +1,42 @@
+//! What follows from the rules of delivery alone, for every trace: whatever is lost, repeated or comes out
+//! of order.
+ghost use Rattle.std.specs.Prelude.{◌≡◌, ◌≤◌, ◌∷◌, ◌+◌, ℕ, List, Some, length, slice_get};
+ghost use Rattle.message.specs.Spelling.{message_bytes};
+ghost use Rattle.message.specs.declared.message.Message.{Message};
+ghost use Rattle.session.specs.declared.packet.Packet.{Packet};
+ghost use Rattle.cluster_law.specs.Delivery.{Communicates};
+ghost use Rattle.cluster_law.specs.Lanes.{Lane};
+ghost use Rattle.cluster_law.specs.Lists.{numbered};
+ghost use Rattle.cluster_law.specs.Noted.{Setting, Noted};
+ghost use Rattle.cluster_law.specs.Sessions.{made_in, sent_in, taken_in, acked_in, heard_in};
+ghost use Rattle.cluster_law.specs.Trace.{packets};
+
+/// A packet keeps its number in all later steps.
+pub fn a_packet_keeps_its_number()
+    ensures { (s : Noted) (earlier : List Noted) (i : ℕ) (p : Packet) → slice_get (packets earlier) i ≡ Some p → slice_get (packets (s ∷ earlier)) i ≡ Some p }
+{}
+
+/// Of a lane the counts of what was made, sent, taken and acknowledged only grow.
+pub fn counts_only_grow()
+    ensures made { (lane : Lane) (s : Noted) (earlier : List Noted) → length (made_in lane earlier) ≤ length (made_in lane (s ∷ earlier)) }
+    ensures sent { (w : Setting) (lane : Lane) (s : Noted) (earlier : List Noted) → sent_in w lane earlier ≤ sent_in w lane (s ∷ earlier) }
+    ensures taken { (w : Setting) (lane : Lane) (s : Noted) (earlier : List Noted) → taken_in w lane earlier ≤ taken_in w lane (s ∷ earlier) }
+    ensures acknowledged { (w : Setting) (lane : Lane) (s : Noted) (earlier : List Noted) → acked_in w lane earlier ≤ acked_in w lane (s ∷ earlier) }
+{}
+
+/// What was taken of a lane was sent in it, and so is a front part of what was made.
+pub fn what_is_taken_was_made()
+    ensures sent { (w : Setting) (lane : Lane) (trace : List Noted) → Communicates w trace → taken_in w lane trace ≤ sent_in w lane trace }
+    ensures made { (w : Setting) (lane : Lane) (trace : List Noted) → Communicates w trace → taken_in w lane trace ≤ length (made_in lane trace) }
+{}
+
+/// What the sender of a lane knows to be taken was taken.
+pub fn what_is_acknowledged_was_taken()
+    ensures { (w : Setting) (lane : Lane) (trace : List Noted) → Communicates w trace → acked_in w lane trace ≤ taken_in w lane trace }
+{}
+
+/// The next packet of a lane that a step hears has the bytes of the message of its number.
+pub fn a_taken_packet_has_its_message()
+    ensures { (w : Setting) (lane : Lane) (s : Noted) (earlier : List Noted) (p : Packet) → Communicates w earlier → heard_in w lane earlier s ≡ Some p → p.seq ≡ taken_in w lane earlier + 1
+        → (m : Message) × (numbered (made_in lane earlier) p.seq ≡ Some m) × (p.body ≡ message_bytes m) }
+{}

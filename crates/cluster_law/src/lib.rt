@@ -1,0 +1,27 @@
+//! The steps of a cluster, and the rules that a list of steps keeps: what both nodes are held to, and what
+//! is shown of the whole.
+//!
+//! - [`Event`] is what may happen, [`TraceStep`] what one step then printed; [`ClientInput`] to
+//!   [`ServerHalted`] are what a node's machine takes and gives. A trace is a list of steps with their
+//!   notes (specs/Noted), newest first: what the node did in the step, and the disk after it.
+//! - Everything that rules speak of is a fold over a trace: the packets sent (specs/Trace), and of each
+//!   direction of a session what was made, sent, taken and acknowledged (specs/Lanes).
+//! - The rules are records over a setting, a new step and the steps before it: packets are neither forged
+//!   nor skipped (specs/Delivery, `KeepsDelivery`), and only a tick sends again (`KeepsResend`).
+//!
+//! The laws: a packet keeps its number ([`a_packet_keeps_its_number`]); counts only grow
+//! ([`counts_only_grow`]); what was taken is the beginning of what was made ([`what_is_taken_was_made`]);
+//! what is acknowledged was taken ([`what_is_acknowledged_was_taken`]); and a taken packet carries the
+//! message of its number ([`a_taken_packet_has_its_message`]).
+#![tactic(auto)]
+
+mod laws;
+mod node;
+mod step;
+
+pub use laws::{
+    a_packet_keeps_its_number, a_taken_packet_has_its_message, counts_only_grow,
+    what_is_acknowledged_was_taken, what_is_taken_was_made,
+};
+pub use node::{ClientInput, ClientOutput, ServerHalted, ServerInput, ServerOutput};
+pub use step::{Answer, Event, Halt, SectorWrite, TraceStep};

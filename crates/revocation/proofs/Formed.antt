@@ -3,7 +3,7 @@ use Rattle.std.specs.List.{All, filter_map, cons_option}
 use Rattle.std.proofs.lemmas.List.Elements.{All-cons, Contains-get_or, Contains-append_right}
 use Rattle.cal_base.specs.declared.identity.ClientId.{ClientId}
 use Rattle.token_kind.specs.Class.{class_number}
-use Rattle.token_kind.specs.Hold.{hold_number, lesser_of}
+use Rattle.token_kind.specs.Hold.{hold_number}
 use Rattle.token_kind.specs.declared.blocker.Blocker.{Blocker}
 use Rattle.token_kind.specs.declared.«class».Class.{Class}
 use Rattle.token_kind.specs.declared.«class».Class.TheVariants.{Names, Data, Attr}
@@ -18,23 +18,21 @@ use Rattle.revocation.specs.Formed.{most_asked, is_of_directory, IsRevoke, AreAs
 use Rattle.revocation.specs.Revokes.{key_of_blocker, lower_asked, asked_with, item_of, revoke_with, revoke_of}
 use Rattle.revocation.specs.declared.owner.Owner.{Owner}
 
-lesser_is_low : (a h : Hold) → hold_number (lesser_of a h) ≤ hold_number h
-lesser_is_low Nothing h = omega arith
-lesser_is_low Read Nothing = omega arith
-lesser_is_low Read Read = omega arith
-lesser_is_low Read Write = omega arith
-lesser_is_low Write h = omega arith
+-- the lower of what is asked and a further mode is one of the two
+lower_is : (m : Option Hold) (h : Hold) → (Some (lower_asked m h) ≡ m) ⊎ (lower_asked m h ≡ h)
+lower_is None h = inr refl
+lower_is (Some Nothing) h = inl refl
+lower_is (Some Read) Nothing = inr refl
+lower_is (Some Read) Read = inl refl
+lower_is (Some Read) Write = inl refl
+lower_is (Some Write) h = inr refl
 
-lower_is_low : (m : Option Hold) (h : Hold) → hold_number (lower_asked m h) ≤ hold_number h
-lower_is_low None h = omega arith
-lower_is_low (Some a) h = lesser_is_low a h
-
--- a blocker that is this hold, and is asked to this mode or a higher one
-record Found (q : HoldKey) (bs : List Blocker) (h : Hold) : Type 0 where
-  b : Blocker
-  member : Contains bs b
-  key : key_of_blocker b ≡ q
-  low : hold_number h ≤ hold_number b.asked
+-- a blocker that is this hold, and is asked to this mode
+pub record Found (q : HoldKey) (bs : List Blocker) (h : Hold) : Type 0 where
+  pub b : Blocker
+  pub member : Contains bs b
+  pub key : key_of_blocker b ≡ q
+  pub mode : b.asked ≡ h
 
 -- what is asked of a hold is what was asked, or was asked for one of the blockers
 found : (q : HoldKey) (bs : List Blocker) (m : Option Hold) → (fold (asked_with q) m bs ≡ m) ⊎ ((h : Hold) × (fold (asked_with q) m bs ≡ Some h) × Found q bs h)
@@ -44,11 +42,17 @@ found q (b ∷ bs) m = by (is_open b.«class») (same_key (key_of_blocker b) q) 
     by : (o s : Bool) → is_open b.«class» ≡ o → same_key (key_of_blocker b) q ≡ s
         → (fold (asked_with q) (asked_with q m b) bs ≡ asked_with q m b) ⊎ ((h : Hold) × (fold (asked_with q) (asked_with q m b) bs ≡ Some h) × Found q bs h)
         → (fold (asked_with q) m (b ∷ bs) ≡ m) ⊎ ((h : Hold) × (fold (asked_with q) m (b ∷ bs) ≡ Some h) × Found q (b ∷ bs) h)
-    by o s e g (inr f) = inr (f.0, f.1, record { b = f.2.b; member = Contains-append_right (b ∷ []) bs f.2.b f.2.member; key = f.2.key; low = f.2.low })
+    by o s e g (inr f) = inr (f.0, f.1, record { b = f.2.b; member = Contains-append_right (b ∷ []) bs f.2.b f.2.member; key = f.2.key; mode = f.2.mode })
     by true s e g (inl r) = inl (r ∙ rw e refl)
     by false false e g (inl r) = inl (r ∙ rw (e, g) refl)
-    by false true e g (inl r) =
-        inr (lower_asked m b.asked, r ∙ rw (e, g) refl, record { b = b; member = Contains-get_or (b ∷ bs) 0 b (omega arith); key = same_key-true (key_of_blocker b) q g; low = lower_is_low m b.asked })
+    by false true e g (inl r) = chosen (lower_is m b.asked)
+      where
+        asked : fold (asked_with q) (asked_with q m b) bs ≡ Some (lower_asked m b.asked)
+        asked = r ∙ rw (e, g) refl
+
+        chosen : (Some (lower_asked m b.asked) ≡ m) ⊎ (lower_asked m b.asked ≡ b.asked) → (fold (asked_with q) m (b ∷ bs) ≡ m) ⊎ ((h : Hold) × (fold (asked_with q) m (b ∷ bs) ≡ Some h) × Found q (b ∷ bs) h)
+        chosen (inl before) = inl (asked ∙ before)
+        chosen (inr own) = inr (b.asked, asked ∙ ap (λ (h : Hold). Some h) own, record { b = b; member = Contains-get_or (b ∷ bs) 0 b (omega arith); key = same_key-true (key_of_blocker b) q g; mode = refl })
 
 not_below : (n : ℕ) → nat_lt n n ≡ false
 not_below n = by (nat_lt n n) refl
@@ -58,7 +62,7 @@ not_below n = by (nat_lt n n) refl
     by false e = refl
 
 -- an item that is asked is of its class, and is asked for one of the blockers
-item_found : (cls : Class) (q : HoldKey) (bs : List Blocker) (m : Option Hold) (x : Class × Hold) → item_of cls m (fold (asked_with q) m bs) ≡ Some x → (x.0 ≡ cls) × Found q bs x.1
+pub item_found : (cls : Class) (q : HoldKey) (bs : List Blocker) (m : Option Hold) (x : Class × Hold) → item_of cls m (fold (asked_with q) m bs) ≡ Some x → (x.0 ≡ cls) × Found q bs x.1
 item_found cls q bs m x e = by (found q bs m)
   where
     unchanged : (m : Option Hold) → item_of cls m m ≡ Some x → (x.0 ≡ cls) × Found q bs x.1
@@ -115,7 +119,7 @@ module _ (before : HoldKey → Option Hold) (bs : List Blocker) (askable : AreAs
     low_at cls x e =
         let f = (found_at cls x e).1 in
         let same : most_asked f.b.«class» ≡ most_asked cls = ap (λ (k : HoldKey). most_asked k.«class») f.key in
-        let low : hold_number x.1 ≤ hold_number f.b.asked = f.low in
+        let low : hold_number f.b.asked ≡ hold_number x.1 = ap hold_number f.mode in
         let most : hold_number f.b.asked ≤ most_asked f.b.«class» = askable.modes f.b f.member in omega (arith, same, low, most)
 
     apart : (cls : Class) (x y : Class × Hold) → is_of_directory cls ≡ false → item_at Names ≡ Some x → item_at cls ≡ Some y → ⊥

@@ -3,3 +3,4 @@ pub mod Requests
 pub mod Drops
 pub mod Walks
 pub mod Formed
+pub mod Reasons

@@ -1,3 +1,4 @@
 pub mod Waiting
 pub mod Revokes
 pub mod Formed
+pub mod Reasons

@@ -12,7 +12,9 @@
 
 mod asked;
 mod asking;
+mod laws;
 mod line;
 mod owner;
 
+pub use laws::what_blocks_is_asked;
 pub use line::{Line, RevokeList};

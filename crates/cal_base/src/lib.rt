@@ -28,8 +28,6 @@ mod sink;
 mod source;
 mod std_sink;
 mod std_source;
-#[cfg(test)]
-mod tests;
 
 pub use cut::cut_at;
 pub use directory_entry::{DirectoryEntry, EntryKind};

@@ -20,8 +20,6 @@ mod print;
 mod reading;
 mod serve;
 mod status;
-#[cfg(test)]
-mod tests;
 mod text;
 
 pub use cluster::run_cluster;

@@ -25,8 +25,6 @@ mod places;
 mod read_error;
 mod reading;
 mod script;
-#[cfg(test)]
-mod tests;
 mod words;
 
 pub use bad_line::{BadLine, BadWhy};

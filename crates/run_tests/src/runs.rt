@@ -1,5 +1,5 @@
-use crate::{Status, run_cluster};
 use cal_base::{FaultSink, FaultSource, MemSink, MemSource};
+use cluster_run::{Status, run_cluster};
 use std::alloc::Global;
 use std::test::Fail;
 
@@ -81,42 +81,6 @@ fn runs_end_as_their_scripts_and_words_say(rt: HostRuntime) -> Result<(), Fail> 
     Ok(())
 }
 
-/// Whether a script ends so: one that begins with a text and is filled with a byte up to a length.
-fn ends_so(
-    alloc: Global,
-    front: &[u8],
-    byte: u8,
-    length: usize,
-    code: u8,
-    text: &[u8],
-) -> Result<bool, Fail> {
-    let mut script = front.to_vec(alloc)?;
-    script.resize(length, byte)?;
-    let ended = run_in_memory(
-        alloc,
-        ["run"].as_slice(),
-        script.as_slice(),
-        Vec::new(alloc),
-        Vec::new(alloc),
-    )?;
-    Ok(ended.status.code() == code && ended.printed.bytes() == text)
-}
-
-#[test]
-fn a_script_is_taken_up_to_its_limits(rt: HostRuntime) -> Result<(), Fail> {
-    let alloc = rt.alloc();
-    let first = b"clients 1\n".as_slice();
-    let comment = b"clients 1\n#".as_slice();
-    let none = b"run clients 1 window 4\nend 0\n".as_slice();
-    let many = b"BadScript 65537 Many\n".as_slice();
-    let long = b"BadScript 2 Long\n".as_slice();
-    assert!(rt; ends_so(alloc, first, b'\n', 65_545, 0, none)?);
-    assert!(rt; ends_so(alloc, first, b'\n', 65_546, 3, many)?);
-    assert!(rt; ends_so(alloc, comment, b'x', 70_010, 0, none)?);
-    assert!(rt; ends_so(alloc, comment, b'x', 70_011, 3, long)?);
-    Ok(())
-}
-
 #[test]
 fn a_failing_edge_ends_the_run(rt: HostRuntime) -> Result<(), Fail> {
     let alloc = rt.alloc();
@@ -144,27 +108,5 @@ fn a_failing_edge_ends_the_run(rt: HostRuntime) -> Result<(), Fail> {
             .saturating_add(line.len())
             .saturating_add(1);
     }
-    Ok(())
-}
-
-#[test]
-fn the_last_inode_is_taken(rt: HostRuntime) -> Result<(), Fail> {
-    let alloc = rt.alloc();
-    let mut script = b"clients 1\n".to_vec(alloc)?;
-    for file in 0..512u32 {
-        let line = format!(in alloc; "c0 create /f{file}\n")?;
-        script.extend_from_slice(line.as_bytes())?;
-    }
-    let ended = run_in_memory(
-        alloc,
-        ["run"].as_slice(),
-        script.as_slice(),
-        Vec::new(alloc),
-        Vec::new(alloc),
-    )?;
-    assert_eq!(rt; ended.status.code(), 0);
-    let last =
-        b"entry call c0 511 new 511 reply ok\nans c0 511 ok\nstep 511 c0 start 512 create /f511\nentry call c0 512 new - reply NOINODE\nans c0 512 NOINODE\nend 512\n";
-    assert!(rt; ended.printed.bytes().ends_with(last));
     Ok(())
 }

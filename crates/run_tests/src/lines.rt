@@ -1,8 +1,4 @@
-use crate::{
-    BadLine, BadWhy, How, Line, ReadLineError, ReadScriptError, Said, read_call, read_line,
-    read_script,
-};
-use cal_base::{Blob, ClientId, NodeId, ServerId};
+use script::{BadLine, BadWhy, ReadLineError, ReadScriptError, read_call, read_line, read_script};
 use std::alloc::Global;
 use std::test::Fail;
 use tree_law::Call;
@@ -13,14 +9,6 @@ fn reason(alloc: Global, number: u32, line: &str) -> Result<Option<BadWhy>, Fail
         Ok(_) => Ok(None),
         Err(ReadLineError::Bad(why)) => Ok(Some(why)),
         Err(ReadLineError::OutOfMemory) => Err("no memory")?,
-    }
-}
-
-/// What a line does.
-fn does(alloc: Global, line: &str) -> Result<Line, Fail> {
-    match read_line(alloc, 3, 100, line.as_bytes()) {
-        Ok(Said::Line(line)) => Ok(line),
-        Ok(_) | Err(_) => Err("no such line")?,
     }
 }
 
@@ -69,32 +57,6 @@ fn calls_have_good_and_bad_lines(rt: HostRuntime) -> Result<(), Fail> {
         ("c1 open a r", Some(BadWhy::Path)),
         ("c1 close 256", Some(BadWhy::Number)),
         ("c1 fsync 00", Some(BadWhy::Number)),
-    ];
-    for (line, why) in lines {
-        assert_eq!(rt; reason(alloc, 3, line)?, why, "{line}");
-    }
-    Ok(())
-}
-
-#[test]
-fn calls_on_bytes_have_good_and_bad_lines(rt: HostRuntime) -> Result<(), Fail> {
-    let alloc = rt.alloc();
-    let lines = [
-        ("c1 read 0 0", Some(BadWhy::Count)),
-        ("c1 read 0 0 262145", Some(BadWhy::Number)),
-        ("c1 read 0 18446744073709551616 1", Some(BadWhy::Number)),
-        ("c1 read 0 +1 1", Some(BadWhy::Number)),
-        ("c1 write 0 0 0", Some(BadWhy::Hex)),
-        ("c1 write 0 0 0F", Some(BadWhy::Hex)),
-        ("c1 write 0 x 0F", Some(BadWhy::Number)),
-        ("c1 write 0 0", Some(BadWhy::Count)),
-        ("c1 fill 0 0 0 7a", Some(BadWhy::Number)),
-        ("c1 fill 0 0 32769 7a", Some(BadWhy::Number)),
-        ("c1 fill 0 0 1 7", Some(BadWhy::Hex)),
-        ("c1 fill 0 0 1 7a7a", Some(BadWhy::Hex)),
-        ("c1 fill 0 0 1", Some(BadWhy::Count)),
-        ("c1 truncate 0", Some(BadWhy::Count)),
-        ("c1 truncate 0 -1", Some(BadWhy::Number)),
     ];
     for (line, why) in lines {
         assert_eq!(rt; reason(alloc, 3, line)?, why, "{line}");
@@ -168,41 +130,6 @@ fn stops_and_windows_have_good_and_bad_lines(rt: HostRuntime) -> Result<(), Fail
 }
 
 #[test]
-fn a_fill_is_a_write(rt: HostRuntime) -> Result<(), Fail> {
-    let alloc = rt.alloc();
-    let filled = Call::Write {
-        fd: 1,
-        offset: 2,
-        bytes: Blob::from_vec(b"zzz".to_vec(alloc)?),
-    };
-    assert_eq!(rt;
-        does(alloc, "c2 fill 1 2 3 7a")?,
-        Line::Call(ClientId(2), filled)
-    );
-    Ok(())
-}
-
-#[test]
-fn a_stop_has_the_bytes_of_its_sector(rt: HostRuntime) -> Result<(), Fail> {
-    let alloc = rt.alloc();
-    let torn = Line::Stop {
-        server: ServerId::B,
-        after: 3,
-        how: How::Hex(Blob::from_vec(b"az".to_vec(alloc)?)),
-    };
-    assert_eq!(rt; does(alloc, "stop B 3 hex 617a")?, torn);
-    Ok(())
-}
-
-#[test]
-fn nodes_are_clients_and_servers(rt: HostRuntime) -> Result<(), Fail> {
-    let alloc = rt.alloc();
-    let cut = Line::Cut(NodeId::Client(ClientId(10)), NodeId::Server(ServerId::A));
-    assert_eq!(rt; does(alloc, "cut c10 A")?, cut);
-    Ok(())
-}
-
-#[test]
 fn a_call_is_read_without_its_client(rt: HostRuntime) -> Result<(), Fail> {
     let alloc = rt.alloc();
     let read = Call::Read {
@@ -244,42 +171,5 @@ fn the_first_bad_line_is_told_with_its_first_reason(rt: HostRuntime) -> Result<(
     for (text, bad) in scripts {
         assert_eq!(rt; first_bad(alloc, text)?, bad, "{text}");
     }
-    Ok(())
-}
-
-/// A script of `clients 1` and so many copies of a line.
-fn copies(alloc: Global, line: &str, count: usize) -> Result<Vec<u8>, Fail> {
-    let mut bytes = b"clients 1\n".to_vec(alloc)?;
-    for _ in 0..count {
-        bytes.extend_from_slice(line.as_bytes())?;
-    }
-    Ok(bytes)
-}
-
-#[test]
-fn a_script_has_limits(rt: HostRuntime) -> Result<(), Fail> {
-    let alloc = rt.alloc();
-    let many = BadLine {
-        line: 65_537,
-        why: BadWhy::Many,
-    };
-    let first = copies(alloc, "\n", 65_535)?;
-    assert!(rt; read_script(alloc, first.as_slice()).is_ok());
-    let second = copies(alloc, "\n", 65_536)?;
-    assert_eq!(rt;
-        read_script(alloc, second.as_slice()).err(),
-        Some(ReadScriptError::BadLine(many))
-    );
-    let mut line = copies(alloc, "#", 70_000)?;
-    assert!(rt; read_script(alloc, line.as_slice()).is_ok());
-    line.push(0)?;
-    let long = BadLine {
-        line: 2,
-        why: BadWhy::Long,
-    };
-    assert_eq!(rt;
-        read_script(alloc, line.as_slice()).err(),
-        Some(ReadScriptError::BadLine(long))
-    );
     Ok(())
 }

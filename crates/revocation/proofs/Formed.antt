@@ -1,4 +1,4 @@
-use Rattle.std.proofs.Common.{◌≡◌, ◌≤◌, ◌<◌, ℕ, ◌⊎◌, inl, inr, List, [], ◌∷◌, Bool, true, false, nat_lt, fold, Option, Some, None, if◌then◌else◌, refl, sym, ap, subst, ◌∙◌, true≢false, arith, rules, Contains}
+use Rattle.std.proofs.Common.{◌≡◌, ◌≢◌, ◌≤◌, ◌<◌, ℕ, ◌⊎◌, inl, inr, List, [], ◌∷◌, Bool, true, false, nat_lt, fold, Option, Some, None, if◌then◌else◌, refl, sym, ap, subst, ◌∙◌, true≢false, arith, rules, Contains}
 use Rattle.std.specs.List.{All, filter_map, cons_option}
 use Rattle.std.proofs.lemmas.List.Elements.{All-cons, Contains-get_or, Contains-append_right}
 use Rattle.cal_base.specs.declared.identity.ClientId.{ClientId}
@@ -6,15 +6,16 @@ use Rattle.token_kind.specs.Class.{class_number}
 use Rattle.token_kind.specs.Hold.{hold_number}
 use Rattle.token_kind.specs.declared.blocker.Blocker.{Blocker}
 use Rattle.token_kind.specs.declared.«class».Class.{Class}
-use Rattle.token_kind.specs.declared.«class».Class.TheVariants.{Names, Data, Attr}
+use Rattle.token_kind.specs.declared.«class».Class.TheVariants.{Names, Data, Attr, Open}
 use Rattle.token_kind.specs.declared.hold.Hold.{Hold}
 use Rattle.token_kind.specs.declared.hold.Hold.TheVariants.{None as Nothing, Read, Write}
 use Rattle.token_kind.specs.declared.revoke.Revoke.{Revoke}
+use Rattle.token_kind.specs.Kept.{IsRevoke, most_left}
 use Rattle.token_table.specs.Blockers.{is_open}
 use Rattle.token_table.specs.Table.{key_of, same_key}
 use Rattle.token_table.specs.declared.hold_key.HoldKey.{HoldKey}
 use Rattle.token_table.proofs.Keys.{same_key-true}
-use Rattle.revocation.specs.Formed.{most_asked, is_of_directory, IsRevoke, AreAskable}
+use Rattle.revocation.specs.Formed.{is_of_directory, AreAskable}
 use Rattle.revocation.specs.Revokes.{key_of_blocker, lower_asked, asked_with, item_of, revoke_with, revoke_of}
 use Rattle.revocation.specs.declared.owner.Owner.{Owner}
 
@@ -86,14 +87,17 @@ item_found cls q bs m x e = by (found q bs m)
     by (inl r) = unchanged m (ap (item_of cls m) (sym r) ∙ e)
     by (inr f) = changed m f.0 f.2 (ap (item_of cls m) (sym f.1) ∙ e)
 
+not_open : (of : Class) → is_open of ≡ false → of ≢ Open
+not_open of closed e = true≢false (sym (ap is_open e) ∙ closed)
+
 -- a Revoke of one class
-revoke_of_one : (r : Revoke) (x : Class × Hold) → r.items ≡ x ∷ [] → 0 < class_number x.0 → is_open x.0 ≡ false → hold_number x.1 ≤ most_asked x.0 → IsRevoke r
+revoke_of_one : (r : Revoke) (x : Class × Hold) → r.items ≡ x ∷ [] → 0 < class_number x.0 → is_open x.0 ≡ false → hold_number x.1 ≤ most_left x.0 → IsRevoke r
 revoke_of_one r x e above closed low = record {
   some = rw e (omega arith);
   few = rw e (omega arith);
   rising = rw e (let lt : nat_lt 0 (class_number x.0) ≡ true = search rules in rw lt (search rules));
-  closed = rw e (All-cons (λ (item : Class × Hold). is_open item.0 ≡ false) x [] closed (λ k d lt. absurd (omega arith)));
-  modes = rw e (All-cons (λ (item : Class × Hold). hold_number item.1 ≤ most_asked item.0) x [] low (λ k d lt. absurd (omega arith)));
+  closed = rw e (All-cons (λ (item : Class × Hold). item.0 ≢ Open) x [] (not_open x.0 closed) (λ k d lt. absurd (omega arith)));
+  modes = rw e (All-cons (λ (item : Class × Hold). hold_number item.1 ≤ most_left item.0) x [] low (λ k d lt. absurd (omega arith)));
 }
 
 -- a Revoke of Data and Attr
@@ -102,8 +106,8 @@ revoke_of_two r x y e p s a b = record {
   some = rw e (omega arith);
   few = rw e (omega arith);
   rising = rw e (rw (p, s) (search rules));
-  closed = rw e (All-cons (λ (item : Class × Hold). is_open item.0 ≡ false) x (y ∷ []) (ap is_open p) (All-cons (λ (item : Class × Hold). is_open item.0 ≡ false) y [] (ap is_open s) (λ k d lt. absurd (omega arith))));
-  modes = rw e (All-cons (λ (item : Class × Hold). hold_number item.1 ≤ most_asked item.0) x (y ∷ []) (rw p a) (All-cons (λ (item : Class × Hold). hold_number item.1 ≤ most_asked item.0) y [] (rw s b) (λ k d lt. absurd (omega arith))));
+  closed = rw e (All-cons (λ (item : Class × Hold). item.0 ≢ Open) x (y ∷ []) (not_open x.0 (ap is_open p)) (All-cons (λ (item : Class × Hold). item.0 ≢ Open) y [] (not_open y.0 (ap is_open s)) (λ k d lt. absurd (omega arith))));
+  modes = rw e (All-cons (λ (item : Class × Hold). hold_number item.1 ≤ most_left item.0) x (y ∷ []) (rw p a) (All-cons (λ (item : Class × Hold). hold_number item.1 ≤ most_left item.0) y [] (rw s b) (λ k d lt. absurd (omega arith))));
 }
 
 module _ (before : HoldKey → Option Hold) (bs : List Blocker) (askable : AreAskable bs) where
@@ -115,12 +119,12 @@ module _ (before : HoldKey → Option Hold) (bs : List Blocker) (askable : AreAs
     unfolding item_at
     found_at cls x e = item_found cls (key_of o.client o.ino cls) bs (before (key_of o.client o.ino cls)) x e
 
-    low_at : (cls : Class) (x : Class × Hold) → item_at cls ≡ Some x → hold_number x.1 ≤ most_asked cls
+    low_at : (cls : Class) (x : Class × Hold) → item_at cls ≡ Some x → hold_number x.1 ≤ most_left cls
     low_at cls x e =
         let f = (found_at cls x e).1 in
-        let same : most_asked f.b.«class» ≡ most_asked cls = ap (λ (k : HoldKey). most_asked k.«class») f.key in
+        let same : most_left f.b.«class» ≡ most_left cls = ap (λ (k : HoldKey). most_left k.«class») f.key in
         let low : hold_number f.b.asked ≡ hold_number x.1 = ap hold_number f.mode in
-        let most : hold_number f.b.asked ≤ most_asked f.b.«class» = askable.modes f.b f.member in omega (arith, same, low, most)
+        let most : hold_number f.b.asked ≤ most_left f.b.«class» = askable.modes f.b f.member in omega (arith, same, low, most)
 
     apart : (cls : Class) (x y : Class × Hold) → is_of_directory cls ≡ false → item_at Names ≡ Some x → item_at cls ≡ Some y → ⊥
     apart cls x y of_file e g =
@@ -132,7 +136,7 @@ module _ (before : HoldKey → Option Hold) (bs : List Blocker) (askable : AreAs
     single : (cls : Class) (x : Class × Hold) (r : Revoke) → item_at cls ≡ Some x → r.items ≡ x ∷ [] → 0 < class_number cls → is_open cls ≡ false → IsRevoke r
     single cls x r e items above closed =
         let is = sym (found_at cls x e).0 in
-        revoke_of_one r x items (subst (λ (k : Class). 0 < class_number k) is above) (subst (λ (k : Class). is_open k ≡ false) is closed) (subst (λ (k : Class). hold_number x.1 ≤ most_asked k) is (low_at cls x e))
+        revoke_of_one r x items (subst (λ (k : Class). 0 < class_number k) is above) (subst (λ (k : Class). is_open k ≡ false) is closed) (subst (λ (k : Class). hold_number x.1 ≤ most_left k) is (low_at cls x e))
 
     items_are : (items : List (Class × Hold)) (s : ClientId × Revoke) → ◌≡◌ {A = Option (ClientId × Revoke)} (Some (o.client, record { ino = o.ino; items = items })) (Some s) → s.1.items ≡ items
     items_are items s e =

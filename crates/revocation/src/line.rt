@@ -2,9 +2,10 @@ ghost use Rattle.std.specs.Prelude.{◌≡◌, ◌++◌, [], IfOk, OnOk, OnErr, 
 ghost use Rattle.std.specs.Option.{option_copied};
 ghost use Rattle.std.specs.List.{list_any};
 ghost use Rattle.std.specs.Option.{option_to_list};
+ghost use Rattle.token_kind.specs.Kept.{IsRevoke};
 ghost use Rattle.token_table.specs.Table.{key_of, same_client};
 ghost use Rattle.revocation.specs.Waiting.{same_request, queued, asked_at, IsRequest, own_blocker, own_blockers, Answers, AsksNothing, without_client};
-ghost use Rattle.revocation.specs.Formed.{AreAskable, IsRevoke};
+ghost use Rattle.revocation.specs.Formed.{AreAskable};
 ghost use Rattle.revocation.specs.Revokes.{revokes_of, AsksAll};
 
 use crate::asked::{AskedMap, answer, ask_all, ask_nothing, asked_at};

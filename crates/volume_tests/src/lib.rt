@@ -1,0 +1,10 @@
+//! Worked runs over the public calls of a volume in memory: what a plan writes, byte for byte, how a file
+//! lives and ends, and what a mount and a read take from a disk.
+#![tactic(auto)]
+
+#[cfg(test)]
+mod making;
+#[cfg(test)]
+mod plans;
+#[cfg(test)]
+mod reads;

@@ -74,7 +74,7 @@ acknowledged-within : (n sent top : ℕ) (o : Option Packet) → n ≤ top → (
 acknowledged-within n sent top None h f = h
 acknowledged-within n sent top (Some p) h f = let low = min-le_left p.ack sent in let a = f p refl in max-le h (omega arith)
 
-acked-next : (w : Setting) (lane : Lane) (s : Noted) (earlier : List Noted) → Communicates w earlier → acked_in w lane earlier ≤ taken_in w lane earlier → acked_in w lane (s ∷ earlier) ≤ taken_in w lane earlier
+pub acked-next : (w : Setting) (lane : Lane) (s : Noted) (earlier : List Noted) → Communicates w earlier → acked_in w lane earlier ≤ taken_in w lane earlier → acked_in w lane (s ∷ earlier) ≤ taken_in w lane earlier
 unfolding acked_in heard_in heard
 acked-next w lane s earlier k before =
     let one : (p : Packet) → heard_in w (back lane) earlier s ≡ Some p → p.ack ≤ taken_in w lane earlier = λ p e.

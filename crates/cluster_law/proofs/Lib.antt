@@ -3,3 +3,4 @@ mod Counts
 mod Prefix
 mod Acks
 mod Bodies
+mod Ends

@@ -4,3 +4,4 @@ pub mod Noted
 pub mod Trace
 pub mod Sessions
 pub mod Delivery
+pub mod Ends

@@ -1,15 +1,17 @@
 //! What follows from the rules of delivery alone, for every trace: whatever is lost, repeated or comes out
 //! of order.
-ghost use Rattle.std.specs.Prelude.{◌≡◌, ◌≤◌, ◌∷◌, ◌+◌, ℕ, List, Some, length, slice_get};
+ghost use Rattle.std.specs.Prelude.{◌≡◌, ◌≤◌, ◌∷◌, ◌+◌, ℕ, List, Some, length, map, slice_get};
 ghost use Rattle.message.specs.Spelling.{message_bytes};
 ghost use Rattle.message.specs.declared.message.Message.{Message};
+ghost use Rattle.session.specs.Session.{SessionState};
 ghost use Rattle.session.specs.declared.packet.Packet.{Packet};
 ghost use Rattle.cluster_law.specs.Delivery.{Communicates};
-ghost use Rattle.cluster_law.specs.Lanes.{Lane};
+ghost use Rattle.cluster_law.specs.Ends.{SessionFits, hearing, making};
+ghost use Rattle.cluster_law.specs.Lanes.{Lane, back};
 ghost use Rattle.cluster_law.specs.Lists.{numbered};
 ghost use Rattle.cluster_law.specs.Noted.{Setting, Noted};
-ghost use Rattle.cluster_law.specs.Sessions.{made_in, sent_in, taken_in, acked_in, heard_in};
-ghost use Rattle.cluster_law.specs.Trace.{packets};
+ghost use Rattle.cluster_law.specs.Sessions.{made_in, made_now, sent_in, taken_in, acked_in, heard_in};
+ghost use Rattle.cluster_law.specs.Trace.{packets, server_of};
 
 /// A packet keeps its number in all later steps.
 pub fn a_packet_keeps_its_number()
@@ -39,4 +41,12 @@ pub fn what_is_acknowledged_was_taken()
 pub fn a_taken_packet_has_its_message()
     ensures { (w : Setting) (lane : Lane) (s : Noted) (earlier : List Noted) (p : Packet) → Communicates w earlier → heard_in w lane earlier s ≡ Some p → p.seq ≡ taken_in w lane earlier + 1
         → (m : Message) × (numbered (made_in lane earlier) p.seq ≡ Some m) × (p.body ≡ message_bytes m) }
+{}
+
+/// One end of a session goes on as the lane of a trace does on which it speaks: where it fits before a step,
+/// it fits after it, once it has heard what the step hears of the other end and was handed what the step
+/// makes. So counts and waiting messages need not be looked at again by whoever follows a node.
+pub fn a_session_goes_on()
+    ensures { (w : Setting) (lane : Lane) (s : Noted) (earlier : List Noted) (session : SessionState) → Communicates w earlier → server_of lane.view (s ∷ earlier) ≡ server_of lane.view earlier → SessionFits w earlier lane session
+        → SessionFits w (s ∷ earlier) lane (making (hearing session (heard_in w (back lane) earlier s)) (map message_bytes (made_now lane s))) }
 {}

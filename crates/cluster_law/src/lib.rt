@@ -11,8 +11,9 @@
 //!
 //! The laws: a packet keeps its number ([`a_packet_keeps_its_number`]); counts only grow
 //! ([`counts_only_grow`]); what was taken is the beginning of what was made ([`what_is_taken_was_made`]);
-//! what is acknowledged was taken ([`what_is_acknowledged_was_taken`]); and a taken packet carries the
-//! message of its number ([`a_taken_packet_has_its_message`]).
+//! what is acknowledged was taken ([`what_is_acknowledged_was_taken`]); a taken packet carries the message of
+//! its number ([`a_taken_packet_has_its_message`]); and an end of a session goes on as its lane does
+//! ([`a_session_goes_on`]).
 #![tactic(auto)]
 
 mod laws;
@@ -20,7 +21,7 @@ mod node;
 mod step;
 
 pub use laws::{
-    a_packet_keeps_its_number, a_taken_packet_has_its_message, counts_only_grow,
+    a_packet_keeps_its_number, a_session_goes_on, a_taken_packet_has_its_message, counts_only_grow,
     what_is_acknowledged_was_taken, what_is_taken_was_made,
 };
 pub use node::{ClientInput, ClientOutput, ServerHalted, ServerInput, ServerOutput};

@@ -4,3 +4,4 @@ mod Prefix
 mod Acks
 mod Bodies
 mod Ends
+mod Answered

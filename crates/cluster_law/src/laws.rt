@@ -1,15 +1,15 @@
 //! What follows from the rules of delivery alone, for every trace: whatever is lost, repeated or comes out
 //! of order.
-ghost use Rattle.std.specs.Prelude.{◌≡◌, ◌≤◌, ◌∷◌, ◌+◌, ℕ, List, Some, length, map, slice_get};
+ghost use Rattle.std.specs.Prelude.{◌≡◌, ◌≢◌, ◌≤◌, ◌<◌, ◌∷◌, ◌+◌, [], ℕ, List, Some, false, length, map, slice_get, IsTrue};
 ghost use Rattle.message.specs.Spelling.{message_bytes};
 ghost use Rattle.message.specs.declared.message.Message.{Message};
 ghost use Rattle.session.specs.Session.{SessionState};
 ghost use Rattle.session.specs.declared.packet.Packet.{Packet};
-ghost use Rattle.cluster_law.specs.Delivery.{Communicates};
+ghost use Rattle.cluster_law.specs.Delivery.{Communicates, KeepsDelivery, speaks, sent_on};
 ghost use Rattle.cluster_law.specs.Ends.{SessionFits, hearing, making};
 ghost use Rattle.cluster_law.specs.Lanes.{Lane, back};
 ghost use Rattle.cluster_law.specs.Lists.{numbered};
-ghost use Rattle.cluster_law.specs.Noted.{Setting, Noted};
+ghost use Rattle.cluster_law.specs.Noted.{Setting, Noted, halts};
 ghost use Rattle.cluster_law.specs.Sessions.{made_in, made_now, sent_in, taken_in, acked_in, heard_in};
 ghost use Rattle.cluster_law.specs.Trace.{packets, server_of};
 
@@ -49,4 +49,11 @@ pub fn a_taken_packet_has_its_message()
 pub fn a_session_goes_on()
     ensures { (w : Setting) (lane : Lane) (s : Noted) (earlier : List Noted) (session : SessionState) → Communicates w earlier → server_of lane.view (s ∷ earlier) ≡ server_of lane.view earlier → SessionFits w earlier lane session
         → SessionFits w (s ∷ earlier) lane (making (hearing session (heard_in w (back lane) earlier s)) (map message_bytes (made_now lane s))) }
+{}
+
+/// A packet with a number that a step hears is answered in that step, by a message or a bare
+/// acknowledgement, unless the step halts. So no node that acknowledges nothing keeps the rules.
+pub fn a_heard_packet_is_answered()
+    ensures { (w : Setting) (lane : Lane) (s : Noted) (earlier : List Noted) (packet : Packet) → KeepsDelivery w s earlier → IsTrue (speaks earlier s lane) → halts s ≡ false
+        → heard_in w (back lane) earlier s ≡ Some packet → 0 < packet.seq → sent_on lane s ≢ [] }
 {}

@@ -12,8 +12,8 @@
 //! The laws: a packet keeps its number ([`a_packet_keeps_its_number`]); counts only grow
 //! ([`counts_only_grow`]); what was taken is the beginning of what was made ([`what_is_taken_was_made`]);
 //! what is acknowledged was taken ([`what_is_acknowledged_was_taken`]); a taken packet carries the message of
-//! its number ([`a_taken_packet_has_its_message`]); and an end of a session goes on as its lane does
-//! ([`a_session_goes_on`]).
+//! its number ([`a_taken_packet_has_its_message`]); an end of a session goes on as its lane does
+//! ([`a_session_goes_on`]); and what is heard is answered ([`a_heard_packet_is_answered`]).
 #![tactic(auto)]
 
 mod laws;
@@ -21,8 +21,9 @@ mod node;
 mod step;
 
 pub use laws::{
-    a_packet_keeps_its_number, a_session_goes_on, a_taken_packet_has_its_message, counts_only_grow,
-    what_is_acknowledged_was_taken, what_is_taken_was_made,
+    a_heard_packet_is_answered, a_packet_keeps_its_number, a_session_goes_on,
+    a_taken_packet_has_its_message, counts_only_grow, what_is_acknowledged_was_taken,
+    what_is_taken_was_made,
 };
 pub use node::{ClientInput, ClientOutput, ServerHalted, ServerInput, ServerOutput};
 pub use step::{Answer, Event, Halt, SectorWrite, TraceStep};

@@ -1,0 +1,5 @@
+pub mod Changes
+pub mod Named
+pub mod Others
+pub mod Staying
+pub mod Untouched

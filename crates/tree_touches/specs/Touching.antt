@@ -1,0 +1,29 @@
+-- Which inodes an entry may alter: those that a change touches, and the file of a call on a descriptor.
+use Rattle.std.specs.Prelude.{◌≡◌, ◌≢◌, Ok, All, ⊤}
+use Rattle.cal_base.specs.declared.identity.ClientId.{ClientId}
+use Rattle.cal_base.specs.declared.identity.Ino.{Ino}
+use Rattle.tree_law.specs.Tree.{Tree, table_of}
+use Rattle.tree_law.specs.Descriptors.{opened, writable}
+use Rattle.tree_law.specs.Needs.{touches}
+use Rattle.tree_law.specs.declared.call.Call.{Call}
+use Rattle.tree_law.specs.declared.call.Call.TheVariants.{Create, Mkdir, Unlink, Rmdir, Rename, Close, Write, Truncate}
+
+-- a call that changes the names of the tree
+abbrev pub IsChange : Call → Type 0
+IsChange (Create path) = ⊤
+IsChange (Mkdir path) = ⊤
+IsChange (Unlink path) = ⊤
+IsChange (Rmdir path) = ⊤
+IsChange (Rename path goal) = ⊤
+IsChange _ = ⊥
+
+-- an inode is in no class among what a change touches
+abbrev pub IsUntouched : Tree → Call → Ino → Type 0
+IsUntouched tree call ino = All (λ touch. touch.0.0 ≢ ino.0) (touches tree call)
+
+-- the file behind a descriptor that a call writes to, cuts or closes
+abbrev pub IsOfFile : Tree → ClientId → Call → Ino → Type 0
+IsOfFile tree client (Close fd) ino = opened (table_of tree client) fd ≡ Ok ino
+IsOfFile tree client (Write fd offset bytes) ino = writable (table_of tree client) fd ≡ Ok ino
+IsOfFile tree client (Truncate fd size) ino = writable (table_of tree client) fd ≡ Ok ino
+IsOfFile tree client _ ino = ⊥

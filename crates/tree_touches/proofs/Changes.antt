@@ -57,7 +57,7 @@ vacant (Some (Directory names)) name at place ino room is =
 vacant (Some (Regular file)) name at place ino room is = absurd (cc)
 vacant None name at place ino room is = absurd (cc)
 
-found_place : (node : Option Node) (name : List ℕ) (at place : Ino) → room_for name node at ≡ Ok place → at ≡ place
+pub found_place : (node : Option Node) (name : List ℕ) (at place : Ino) → room_for name node at ≡ Ok place → at ≡ place
 found_place (Some (Directory names)) name at place room =
     elim (is_some (finite.get names name)) as (λ b. (if b then Err Exist else (if nat_le directory_entries (finite.len names) then Err DirFull else Ok at)) ≡ Ok place → at ≡ place) [
       | true ↦ λ e. absurd (cc)

@@ -1,4 +1,5 @@
 pub mod Changes
+pub mod Classes
 pub mod Named
 pub mod Others
 pub mod Staying

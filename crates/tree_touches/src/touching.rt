@@ -7,13 +7,17 @@ ghost use Rattle.tree_law.specs.declared.call.Call.{Call};
 ghost use Rattle.tree_law.specs.declared.entry.Entry.{Entry};
 ghost use Rattle.tree_law.specs.declared.entry.Entry.TheVariants.{Call as Called, Flush};
 ghost use Rattle.tree_law.specs.declared.reply.Reply.{Reply};
-ghost use Rattle.tree_touches.specs.Touching.{IsChange, IsOfFile, IsUntouched};
+ghost use Rattle.tree_touches.specs.Touching.{IsChange, IsClassUntouched, IsOfFile, IsUntouched, ShowsNode};
 
 /// After a change that the tree of a legal history allows next, carried out or refused, an inode that
 /// is in no class among what the change touches, and that the change didn't make, has the node that it
-/// had: the same entries, or the same bytes, lasting bytes and writer, or nothing as before.
+/// had: the same entries, or the same bytes, lasting bytes and writer, or nothing as before. Where
+/// something stands, one class tells that: Names of a directory, Data or Attr of a file.
 pub fn an_untouched_inode_keeps_its_node()
-    ensures { (history : List Entry) (client : ClientId) (number : ℕ) (call : Call) (reply : Reply) (new : Option Ino) (ino : Ino)
+    ensures class { (history : List Entry) (client : ClientId) (number : ℕ) (call : Call) (reply : Reply) (new : Option Ino) (ino : Ino) (class : ℕ)
+        → IsLegal history → IsNext (tree_of history) (Called client number call reply new) → IsChange call → ShowsNode (node_at (tree_of history) ino) class → IsClassUntouched (tree_of history) call ino class
+        → node_at (after (tree_of history) (Called client number call reply new)) ino ≡ node_at (tree_of history) ino }
+    ensures all { (history : List Entry) (client : ClientId) (number : ℕ) (call : Call) (reply : Reply) (new : Option Ino) (ino : Ino)
         → IsLegal history → IsNext (tree_of history) (Called client number call reply new) → IsChange call → IsUntouched (tree_of history) call ino → new ≢ Some ino
         → node_at (after (tree_of history) (Called client number call reply new)) ino ≡ node_at (tree_of history) ino }
 {}

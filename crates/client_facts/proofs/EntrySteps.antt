@@ -29,7 +29,7 @@ use Rattle.client_facts.proofs.FlushSteps.{IsTheOne, find_same, found_is, found_
 use Rattle.client_cache.proofs.KnownLemmas.{cached_at}
 
 -- a file that stands in the swept tree stood in the tree
-swept_stands : (tree : Tree) (k : ℕ) (node : Node) → node_of (swept tree) k ≡ Some node → node_of tree k ≡ Some node
+pub swept_stands : (tree : Tree) (k : ℕ) (node : Node) → node_of (swept tree) k ≡ Some node → node_of tree k ≡ Some node
 swept_stands tree k node e = elim (cases_lt k 512) [
   | inl below ↦ by (is_idle tree k) (sym (swept_node tree 512 k below) ∙ e)
   | inr above ↦ sym (swept_node_above tree 512 k above) ∙ e

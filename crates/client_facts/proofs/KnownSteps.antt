@@ -27,7 +27,7 @@ use Rattle.client_cache.specs.Known.{Known, flush_at, inode_at, is_flush_of, is_
 use Rattle.client_facts.specs.Lowers.{MayLower}
 use Rattle.client_facts.proofs.FileSteps.{or_left}
 
-none_from : {X : Type 0} (o : Option X) → is_none o ≡ true → o ≡ None
+pub none_from : {X : Type 0} (o : Option X) → is_none o ≡ true → o ≡ None
 none_from None e = refl
 none_from (Some x) e = absurd (cc)
 

@@ -2,3 +2,5 @@ pub mod FileSteps
 pub mod KnownSteps
 pub mod FlushSteps
 pub mod EntrySteps
+pub mod TakeSteps
+pub mod CallSteps

@@ -1,2 +1,4 @@
+pub mod Answers
 pub mod Leaves
 pub mod Lowers
+pub mod Takes

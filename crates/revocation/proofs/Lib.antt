@@ -4,3 +4,6 @@ pub mod Drops
 pub mod Walks
 pub mod Formed
 pub mod Reasons
+pub mod Sent
+pub mod Order
+pub mod Askable

@@ -93,7 +93,7 @@ still_within q (b ∷ bs) m h w = still_within q bs (asked_with q m b) h (by (no
     by true None v = absurd v
     by true (Some a) v = let low : hold_number (lesser_of a b.asked) ≤ hold_number a = lesser_within a b.asked in let w : hold_number a ≤ hold_number h = v in omega (arith, low, w)
 
-now_within : (bs : List Blocker) (m : Option Hold) (b : Blocker) → Contains bs b → is_open b.«class» ≡ false → IsAskedWithin (fold (asked_with (key_of_blocker b)) m bs) b.asked
+pub now_within : (bs : List Blocker) (m : Option Hold) (b : Blocker) → Contains bs b → is_open b.«class» ≡ false → IsAskedWithin (fold (asked_with (key_of_blocker b)) m bs) b.asked
 now_within [] m b c closed = absurd (let lt = c.1 in omega arith)
 now_within (d ∷ bs) m b c closed = by (Contains-append_cases (d ∷ []) bs b c) (λ rest. now_within bs (asked_with (key_of_blocker b) m d) b rest closed)
   where

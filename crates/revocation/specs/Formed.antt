@@ -2,6 +2,8 @@ use Rattle.std.specs.Prelude.{◌≡◌, ◌≤◌, List, Bool, true, false, Con
 use Rattle.token_kind.specs.Hold.{hold_number}
 use Rattle.token_kind.specs.Kept.{most_left}
 use Rattle.token_kind.specs.declared.blocker.Blocker.{Blocker}
+use Rattle.cal_base.specs.declared.identity.Ino.{Ino}
+use Rattle.token_kind.specs.declared.token.Token.{Token}
 use Rattle.token_kind.specs.declared.«class».Class.{Class}
 use Rattle.token_kind.specs.declared.«class».Class.TheVariants.{Names, Data, Attr, Open}
 
@@ -16,3 +18,7 @@ is_of_directory Open = false
 pub record AreAskable (blockers : List Blocker) : Type 0 where
   pub modes : (b : Blocker) → Contains blockers b → hold_number b.asked ≤ most_left b.«class»
   pub kinds : (b d : Blocker) → Contains blockers b → Contains blockers d → b.ino ≡ d.ino → is_of_directory b.«class» ≡ is_of_directory d.«class»
+
+-- what a client may need: Names of directories, and Data, Attr and Open of files, where each inode is a directory or a file
+abbrev pub AreNeeds : (Ino → Bool) → List Token → Type 0
+AreNeeds is_directory needs = (need : Token) → Contains needs need → is_of_directory need.«class» ≡ is_directory need.ino

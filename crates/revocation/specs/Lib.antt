@@ -1,4 +1,5 @@
 pub mod Waiting
 pub mod Revokes
 pub mod Formed
+pub mod Order
 pub mod Reasons

@@ -1,4 +1,4 @@
-use Rattle.std.specs.Prelude.{◌≡◌, List, ◌∷◌, [], Bool, ◌&&◌, not, nat_lt, fold, Option, Some, None, if◌then◌else◌}
+use Rattle.std.specs.Prelude.{◌≡◌, List, ◌∷◌, [], Bool, false, ◌&&◌, ◌||◌, not, nat_le, nat_lt, fold, Option, Some, None, if◌then◌else◌}
 use Rattle.std.specs.List.{filter_map}
 use Rattle.std.specs.Option.{option_or}
 use Rattle.cal_base.specs.declared.identity.ClientId.{ClientId}
@@ -32,6 +32,15 @@ key_of_blocker b = key_of b.client b.ino b.«class»
 abbrev pub lower_asked : Option Hold → Hold → Hold
 lower_asked None mode = mode
 lower_asked (Some asked) mode = lesser_of asked mode
+
+-- something is asked already, at or below a mode
+abbrev pub is_within : Option Hold → Hold → Bool
+is_within None mode = false
+is_within (Some asked) mode = nat_le (hold_number asked) (hold_number mode)
+
+-- a blocker is asked already: to its mode or a lower one; or it is Open, which is never asked back
+abbrev pub is_asked : List (HoldKey × Hold) → Blocker → Bool
+is_asked asked b = is_open b.«class» || is_within (asked_at asked (key_of_blocker b)) b.asked
 
 -- what is asked of a hold once a blocker is asked too; Open is never asked back
 abbrev pub asked_with : HoldKey → Option Hold → Blocker → Option Hold

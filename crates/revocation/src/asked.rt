@@ -3,7 +3,7 @@ ghost use Rattle.indexmap.specs.IndexMap.{spare};
 ghost use Rattle.token_table.specs.Table.{same_key, same_client};
 ghost use Rattle.token_table.specs.Blockers.{is_open};
 ghost use Rattle.revocation.specs.Waiting.{asked_at, Asks, Answers, AsksNothing, still_asked};
-ghost use Rattle.revocation.specs.Revokes.{lower_asked, key_of_blocker, asked_with, AsksAll};
+ghost use Rattle.revocation.specs.Revokes.{is_within, is_asked, lower_asked, key_of_blocker, asked_with, AsksAll};
 ghost use Rattle.token_table.specs.declared.hold_key.HoldKey.{HoldKey};
 
 use cal_base::{ClientId, Oom};
@@ -49,6 +49,22 @@ pub fn is_open(class: Class) -> bool
     match class {
         Class::Names | Class::Data | Class::Attr => false,
         Class::Open => true,
+    }
+}
+
+/// Whether a blocker is asked already: to its mode or a lower one; or is Open, which is never asked back.
+pub fn is_asked(asked: &AskedMap, b: Blocker) -> bool
+    ensures { result ≡ is_asked asked.now.entries b }
+{
+    is_open(b.class) || is_within(asked_at(asked, key_of(b)), b.asked)
+}
+
+fn is_within(asked: Option<Hold>, mode: Hold) -> bool
+    ensures { result ≡ is_within asked mode }
+{
+    match asked {
+        None => false,
+        Some(asked) => !asked.is_above(mode),
     }
 }
 

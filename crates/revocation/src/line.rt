@@ -1,14 +1,14 @@
-ghost use Rattle.std.specs.Prelude.{◌≡◌, ◌++◌, [], IfOk, OnOk, OnErr, All, drop, slice_get, filter, not};
+ghost use Rattle.std.specs.Prelude.{◌≡◌, ◌↔◌, ◌++◌, IsTrue, [], IfOk, OnOk, OnErr, All, drop, slice_get, filter, not};
 ghost use Rattle.std.specs.Option.{option_copied};
-ghost use Rattle.std.specs.List.{list_any};
+ghost use Rattle.std.specs.List.{list_any, list_all};
 ghost use Rattle.std.specs.Option.{option_to_list};
 ghost use Rattle.token_kind.specs.Kept.{IsRevoke};
 ghost use Rattle.token_table.specs.Table.{key_of, same_client};
 ghost use Rattle.revocation.specs.Waiting.{same_request, queued, asked_at, IsRequest, own_blocker, own_blockers, Answers, AsksNothing, without_client};
 ghost use Rattle.revocation.specs.Formed.{AreAskable};
-ghost use Rattle.revocation.specs.Revokes.{revokes_of, AsksAll};
+ghost use Rattle.revocation.specs.Revokes.{revokes_of, is_asked, AsksAll};
 
-use crate::asked::{AskedMap, answer, ask_all, ask_nothing, asked_at};
+use crate::asked::{AskedMap, answer, ask_all, ask_nothing, asked_at, is_asked};
 pub use crate::asking::RevokeList;
 use crate::asking::revokes;
 use cal_base::{ClientId, Ino, Oom};
@@ -106,6 +106,14 @@ impl Line {
         Ok(revokes)
     }
 
+    /// Whether `to_send` would send nothing for blockers, as each is asked already, or is Open: then a server
+    /// whose head waits for them is idle. It takes no memory.
+    pub fn is_all_asked(&self, blockers: &[Blocker]) -> bool
+        ensures { IsTrue result ↔ (revokes_of self.now.asked blockers.now ≡ []) }
+    {
+        are_asked(&self.asked, blockers)
+    }
+
     /// Notes that a client's hold is now this: a Revoke of it is answered where that is at or below the
     /// mode that was asked.
     pub fn lowered(&mut self, c: ClientId, ino: Ino, class: Class, to: Hold)
@@ -164,6 +172,13 @@ impl Line {
     {
         self.requests.iter().any(|other| same_request(r, other))
     }
+}
+
+/// Whether each blocker is asked already.
+fn are_asked(asked: &AskedMap, blockers: &[Blocker]) -> bool
+    ensures { result ≡ list_all (is_asked asked.now.entries) blockers.now }
+{
+    blockers.iter().all(|b| is_asked(asked, *b))
 }
 
 /// Whether two requests are one: of the same client, for its call of the same number.

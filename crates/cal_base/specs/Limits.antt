@@ -49,6 +49,22 @@ unflushed_blocks = 16
 abbrev pub directory_entries : ℕ
 directory_entries = 1024
 
+-- blocks of one directory
+abbrev pub directory_blocks : ℕ
+directory_blocks = 8
+
+-- bytes of the blocks of one directory
+abbrev pub directory_size : ℕ
+directory_size = 32768
+
+-- slots of one block of a directory
+abbrev pub slots_per_block : ℕ
+slots_per_block = 128
+
+-- bytes of one slot of a directory
+abbrev pub slot_size : ℕ
+slot_size = 32
+
 -- inodes of the volume
 abbrev pub inodes : ℕ
 inodes = 512
@@ -57,9 +73,17 @@ inodes = 512
 abbrev pub blocks : ℕ
 blocks = 2048
 
+-- bytes of the block map, a bit for each data block
+abbrev pub map_size : ℕ
+map_size = 256
+
 -- sectors of the disk
 abbrev pub sectors : ℕ
 sectors = 2596
+
+-- homes of one transaction, at least 1
+abbrev pub transaction_homes : ℕ
+transaction_homes = 16
 
 -- messages of one session that may be sent and not yet acknowledged
 abbrev pub unacknowledged : ℕ

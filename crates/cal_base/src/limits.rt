@@ -34,14 +34,32 @@ pub const UNFLUSHED_BLOCKS: u8 = 16;
 /// Entries of one directory.
 pub const DIRECTORY_ENTRIES: usize = 1_024;
 
+/// Blocks of one directory.
+pub const DIRECTORY_BLOCKS: usize = 8;
+
+/// Bytes of the blocks of one directory.
+pub const DIRECTORY_SIZE: u32 = 32_768;
+
+/// Slots of one block of a directory.
+pub const SLOTS_PER_BLOCK: usize = 128;
+
+/// Bytes of one slot of a directory.
+pub const SLOT_SIZE: usize = 32;
+
 /// Inodes of the volume.
 pub const INODES: usize = 512;
 
 /// Data blocks of the volume.
 pub const BLOCKS: usize = 2_048;
 
+/// Bytes of the block map, a bit for each data block.
+pub const MAP_SIZE: usize = 256;
+
 /// Sectors of the disk.
 pub const SECTORS: u32 = 2_596;
+
+/// Homes of one transaction, at least 1.
+pub const TRANSACTION_HOMES: usize = 16;
 
 /// Messages of one session that may be sent and not yet acknowledged.
 pub const UNACKNOWLEDGED: usize = 8;

@@ -1,3 +1,4 @@
 pub mod BigEndian
 pub mod Padded
 pub mod Filled
+pub mod Flag

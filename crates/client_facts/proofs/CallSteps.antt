@@ -13,7 +13,7 @@ use Rattle.delayed_write.specs.Marks.{marked_by_shrink, marked_by_truncate, mark
 use Rattle.delayed_write.proofs.MarkLemmas.{length-with_marks}
 use Rattle.delayed_write.proofs.TurnLemmas.{truncate_turns, write_turns}
 use Rattle.file_bytes.specs.Bytes.{resized, written}
-use Rattle.token_kind.specs.Flush.{block_count}
+use Rattle.cal_base.specs.Blocks.{block_count}
 use Rattle.token_kind.specs.Hold.{hold_number}
 use Rattle.token_kind.specs.declared.flush.Flush.{Flush}
 use Rattle.token_kind.specs.declared.hold.Hold.{Hold}

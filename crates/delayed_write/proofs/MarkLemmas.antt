@@ -1,7 +1,7 @@
 use Rattle.std.proofs.Common.{◌≡◌, ◌+◌, ◌-◌, ◌<◌, ◌≤◌, ◌/◌, ◌⊎◌, ◌↔◌, ◌*◌, inl, inr, ℕ, zero, suc, Bool, true, false, nat_eq, nat_lt, List, ◌++◌, take, drop, replicate, length, get_or, refl, sym, ap, ◌∙◌, arith, length-append}
 use Rattle.std.proofs.lemmas.Bool.{false≢true, cases_lt, cond-true, cond-false, lt-ltb, le-ltb, ne_eqb}
 use Rattle.std.proofs.lemmas.List.{length-drop, get_or_append_left, get_or-append_right, get_or-take, get_or-drop, get_or-replicate, get_or_past, length-replicate, length-take-le}
-use Rattle.token_kind.specs.Flush.{block_count}
+use Rattle.cal_base.specs.Blocks.{block_count}
 use Rattle.delayed_write.specs.Marks.{BeginsBefore, HoldsEnd, HoldsWritten, is_marked, marked_by_shrink, marked_by_truncate, marked_by_write, with_marks}
 
 -- marks that are set stay as many

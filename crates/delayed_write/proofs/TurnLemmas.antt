@@ -3,7 +3,8 @@ use Rattle.std.proofs.lemmas.Bool.{cases_Bool, cases_lt, cond-true, cond-false, 
 use Rattle.std.proofs.lemmas.List.{get_or_past, take_all}
 use Rattle.cal_base.specs.declared.identity.Ino.{Ino}
 use Rattle.token_kind.specs.declared.hold.Hold.{Hold}
-use Rattle.token_kind.specs.Flush.{IsFlush, are_rising, block_count, byte_by, flushed_byte, kept_byte}
+use Rattle.cal_base.specs.Blocks.{block_count}
+use Rattle.token_kind.specs.Flush.{IsFlush, are_rising, byte_by, flushed_byte, kept_byte}
 use Rattle.token_kind.specs.Hold.{hold_number}
 use Rattle.file_bytes.specs.Bytes.{resized}
 use Rattle.delayed_write.specs.Marks.{is_marked, marked_by_shrink, marked_by_truncate, marked_by_write, marked_count}

@@ -2,7 +2,8 @@ use Rattle.std.specs.Prelude.{◌≡◌, ◌≤◌, ◌<◌, ℕ, zero, suc, Boo
 use Rattle.cal_base.specs.declared.identity.Ino.{Ino}
 use Rattle.token_kind.specs.declared.flush.Flush.{Flush}
 use Rattle.token_kind.specs.declared.hold.Hold.{Hold}
-use Rattle.token_kind.specs.Flush.{IsFlushed, block_count}
+use Rattle.cal_base.specs.Blocks.{block_count}
+use Rattle.token_kind.specs.Flush.{IsFlushed}
 use Rattle.file_bytes.specs.Bytes.{block_at, resized, written}
 use Rattle.delayed_write.specs.Marks.{is_marked, marked_by_truncate, marked_by_write, marked_count, no_marks}
 

@@ -1,5 +1,5 @@
 use Rattle.std.specs.Prelude.{◌≡◌, ◌≤◌, ◌<◌, ◌+◌, ◌-◌, ◌*◌, ◌/◌, ℕ, Bool, true, false, nat_eq, nat_lt, if◌then◌else◌, List, ◌++◌, take, drop, replicate, slice_index_or, count_by}
-use Rattle.token_kind.specs.Flush.{block_count}
+use Rattle.cal_base.specs.Blocks.{block_count}
 
 -- a block is marked; there are 64, one for each block of the largest file
 abbrev pub is_marked : List Bool → ℕ → Bool

@@ -1,5 +1,5 @@
 ghost use Rattle.std.specs.Prelude.{◌≡◌, ◌≤◌, ◌+◌, length};
-ghost use Rattle.token_kind.specs.Flush.{block_count};
+ghost use Rattle.cal_base.specs.Blocks.{block_count};
 ghost use Rattle.delayed_write.specs.Marks.{marked_by_shrink, marked_by_truncate, marked_by_write, marked_count, with_marks};
 
 use cal_base::{BLOCK_SIZE, FILE_BLOCKS};

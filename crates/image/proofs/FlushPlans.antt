@@ -4,7 +4,8 @@ use Rattle.std.proofs.lemmas.Bool.{cases_lt}
 use Rattle.std.proofs.lemmas.List.{length-replicate, length-set, length-take}
 use Rattle.std.proofs.lemmas.Option.{slice_get_within}
 use Rattle.space_map.specs.SpaceMap.{IsLeastFree}
-use Rattle.token_kind.specs.Flush.{IsFlush, block_count}
+use Rattle.cal_base.specs.Blocks.{block_count}
+use Rattle.token_kind.specs.Flush.{IsFlush}
 use Rattle.token_kind.specs.declared.flush.Flush.{Flush}
 use Rattle.volume.specs.Volume.{Volume}
 use Rattle.volume_plan.proofs.FreeBlocks.{AreFreeBlocks, least_are_free}

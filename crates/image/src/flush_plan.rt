@@ -1,7 +1,8 @@
 ghost use Rattle.std.specs.Prelude.{◌≡◌, ◌≤◌, ◌<◌, ◌+◌, ◌^◌, ℕ, All, List, length, take, IfOk};
 ghost use Rattle.inode.specs.Inode.{IsInode};
 ghost use Rattle.inode.specs.declared.inode.Kind.TheVariants.{File};
-ghost use Rattle.token_kind.specs.Flush.{IsFlush, block_count};
+ghost use Rattle.cal_base.specs.Blocks.{block_count};
+ghost use Rattle.token_kind.specs.Flush.{IsFlush};
 ghost use Rattle.tree_law.specs.FileState.{FileState};
 ghost use Rattle.tree_law.specs.declared.entry.Entry.{Entry};
 ghost use Rattle.volume.specs.Stands.{AreBlocksKept};

@@ -8,7 +8,8 @@ use Rattle.cal_fields.proofs.PaddedLemmas.{padded-cancel}
 use Rattle.inode.specs.declared.inode.Inode.{Inode}
 use Rattle.inode.specs.declared.inode.Kind.{Kind}
 use Rattle.inode.specs.declared.inode.Kind.TheVariants.{Free, File, Dir}
-use Rattle.inode.specs.Inode.{IsInRange, IsInode, KindAllows, SpellsInode, bool_byte, inode_fields, kind_byte, pointer_bytes}
+use Rattle.cal_fields.specs.Flag.{bool_byte}
+use Rattle.inode.specs.Inode.{IsInRange, IsInode, KindAllows, SpellsInode, inode_fields, kind_byte, pointer_bytes}
 
 -- the bytes of one pointer more
 pub pointer_bytes-append : (xs : List ℕ) (x : ℕ) → pointer_bytes (xs ++ x ∷ []) ≡ pointer_bytes xs ++ big_endian 2 x

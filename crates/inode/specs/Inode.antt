@@ -1,6 +1,8 @@
-use Rattle.std.specs.Prelude.{◌≡◌, ◌≢◌, ◌≤◌, ◌<◌, ◌+◌, ◌/◌, ◌%◌, ◌^◌, ◌++◌, ◌∷◌, [], ℕ, Bool, true, false, List, length, slice_index, if◌then◌else◌}
+use Rattle.std.specs.Prelude.{◌≡◌, ◌≢◌, ◌≤◌, ◌<◌, ◌/◌, ◌%◌, ◌^◌, ◌++◌, ◌∷◌, [], ℕ, Bool, true, false, List, length, slice_index}
 use Rattle.std.specs.List.{flat_map}
+use Rattle.cal_base.specs.Blocks.{block_count}
 use Rattle.cal_fields.specs.BigEndian.{big_endian}
+use Rattle.cal_fields.specs.Flag.{bool_byte}
 use Rattle.cal_fields.specs.Padded.{padded}
 use Rattle.inode.specs.declared.inode.Inode.{Inode}
 use Rattle.inode.specs.declared.inode.Kind.{Kind}
@@ -11,9 +13,6 @@ kind_byte Free = 0
 kind_byte File = 1
 kind_byte Dir = 2
 
-abbrev pub bool_byte : Bool → ℕ
-bool_byte b = if b then 1 else 0
-
 -- the pointers, two bytes each
 unfoldable pub pointer_bytes : List ℕ → List ℕ
 pointer_bytes pointers = flat_map (big_endian 2) pointers
@@ -21,10 +20,6 @@ pointer_bytes pointers = flat_map (big_endian 2) pointers
 -- the fields of an inode: its kind, whether it is named, its size and its pointers
 abbrev pub inode_fields : Inode → List ℕ
 inode_fields i = (((kind_byte i.kind ∷ []) ++ bool_byte i.named ∷ []) ++ big_endian 4 i.size) ++ pointer_bytes i.blocks
-
--- how many blocks hold so many bytes
-abbrev pub block_count : ℕ → ℕ
-block_count size = (size + 4095) / 4096
 
 -- each pointer is 0, a hole, or one of the 2,048 data blocks, from 1
 abbrev pub AreSmall : List ℕ → Type 0

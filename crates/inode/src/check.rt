@@ -1,5 +1,6 @@
 ghost use Rattle.std.specs.Prelude.{◌≡◌, ◌≢◌, ◌↔◌, ◌≤◌, ◌<◌, ℕ, length, slice_index, IsTrue};
-ghost use Rattle.inode.specs.Inode.{AreBlocksBefore, AreHolesFrom, AreSmall, IsDirInode, IsFileInode, IsFreeInode, IsInode, block_count};
+ghost use Rattle.cal_base.specs.Blocks.{block_count};
+ghost use Rattle.inode.specs.Inode.{AreBlocksBefore, AreHolesFrom, AreSmall, IsDirInode, IsFileInode, IsFreeInode, IsInode};
 
 use crate::inode::{Inode, Kind};
 

@@ -1,6 +1,7 @@
 ghost use Rattle.std.specs.Prelude.{◌≡◌, ◌≢◌, ◌↔◌, ◌≤◌, ◌<◌, ◌+◌, ◌*◌, ◌^◌, ◌++◌, ℕ, List, Ok, length, slice_index, IsTrue, IsErr, IfOk, OnErr};
 ghost use Rattle.inode.specs.declared.inode.Inode.{Inode};
-ghost use Rattle.inode.specs.Inode.{IsInRange, SpellsInode, bool_byte, inode_fields, kind_byte, pointer_bytes};
+ghost use Rattle.cal_fields.specs.Flag.{bool_byte};
+ghost use Rattle.inode.specs.Inode.{IsInRange, SpellsInode, inode_fields, kind_byte, pointer_bytes};
 
 use crate::check::is_inode;
 use crate::inode::{Inode, Kind};

@@ -1,6 +1,7 @@
 ghost use Rattle.std.specs.Prelude.{◌≡◌, ◌++◌, ◌≤◌, ◌+◌, ◌*◌, length};
 ghost use Rattle.cal_fields.specs.Padded.{padded};
-ghost use Rattle.inode.specs.Inode.{IsInode, SpellsInode, bool_byte, inode_fields, kind_byte, pointer_bytes};
+ghost use Rattle.cal_fields.specs.Flag.{bool_byte};
+ghost use Rattle.inode.specs.Inode.{IsInode, SpellsInode, inode_fields, kind_byte, pointer_bytes};
 
 use crate::inode::{Inode, Kind};
 use cal_base::Sector;

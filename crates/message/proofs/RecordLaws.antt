@@ -3,7 +3,8 @@ use Rattle.std.proofs.Common.{◌≡◌, ◌+◌, ◌<◌, ◌≤◌, ◌^◌, �
 use Rattle.std.specs.List.{flat_map}
 use Rattle.cal_fields.specs.BigEndian.{big_endian}
 use Rattle.token_kind.specs.Class.{class_number}
-use Rattle.token_kind.specs.Flush.{IsFlush, block_count}
+use Rattle.cal_base.specs.Blocks.{block_count}
+use Rattle.token_kind.specs.Flush.{IsFlush}
 use Rattle.token_kind.specs.Hold.{hold_number}
 use Rattle.token_kind.specs.Kept.{IsRelease, IsRevoke}
 use Rattle.token_kind.specs.declared.release.Release.{Release}

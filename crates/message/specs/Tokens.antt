@@ -1,7 +1,7 @@
 -- What moves tokens and contents between clients and servers.
 use Rattle.std.specs.Prelude.{◌+◌, ◌/◌, ◌&&◌, ℕ, Bool, List, Ok, nat_lt, nat_le, if◌then◌else◌}
 use Rattle.token_kind.specs.Class.{class_number}
-use Rattle.token_kind.specs.Flush.{block_count}
+use Rattle.cal_base.specs.Blocks.{block_count}
 use Rattle.token_kind.specs.declared.«class».Class.{Class}
 use Rattle.token_kind.specs.declared.«class».Class.TheVariants.{Names, Data, Attr, Open}
 use Rattle.token_kind.specs.declared.content.Content.{Content}

@@ -4,7 +4,7 @@ ghost use Rattle.message.specs.Reading.{alike_at, many_at, take_at};
 ghost use Rattle.message.specs.Field.{size_at};
 ghost use Rattle.message.specs.Tokens.{block_at, blocks_at, bytes_at, content_at, flush_at, fresh_content_at, grant_item_at, grant_items_at, index_at, kept_item_at, kept_items_at, piece_at, release_at, reported_at, revoke_at};
 ghost use Rattle.token_kind.specs.Class.{class_number};
-ghost use Rattle.token_kind.specs.Flush.{block_count};
+ghost use Rattle.cal_base.specs.Blocks.{block_count};
 
 use crate::input::Input;
 use crate::names::copy_of;

@@ -13,7 +13,8 @@ use Rattle.change_reply.specs.ReplyBytes.{IsChangeReply, reply_bytes}
 use Rattle.change_reply.proofs.ReplyLemmas.{lengths, reply_again, same_read}
 use Rattle.request_log.specs.declared.slot.Slot.{Slot}
 use Rattle.request_log.specs.Kept.{IsLast, StandsBehind}
-use Rattle.request_log.specs.Slot.{SpellsSlot, bool_byte, head_bytes, kept_bytes}
+use Rattle.cal_fields.specs.Flag.{bool_byte}
+use Rattle.request_log.specs.Slot.{SpellsSlot, head_bytes, kept_bytes}
 
 bool_byte-cancel : (a b : Bool) → bool_byte a ≡ bool_byte b → a ≡ b
 bool_byte-cancel false false e = refl

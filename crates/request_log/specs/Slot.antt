@@ -1,14 +1,12 @@
 -- The slot of a client: what a volume knows of its requests, and the sector that spells it.
 use Rattle.std.specs.Prelude.{◌≡◌, ◌==◌, ◌<◌, ◌^◌, ◌++◌, ◌∷◌, [], ℕ, Bool, List, length, if◌then◌else◌}
 use Rattle.cal_fields.specs.BigEndian.{big_endian}
+use Rattle.cal_fields.specs.Flag.{bool_byte}
 use Rattle.cal_fields.specs.Padded.{padded}
 use Rattle.tree_law.specs.declared.reply.Reply.{Reply}
 use Rattle.tree_law.specs.declared.reply.Reply.TheVariants.{Done}
 use Rattle.change_reply.specs.ReplyBytes.{IsChangeReply, reply_bytes}
 use Rattle.request_log.specs.declared.slot.Slot.{Slot}
-
-abbrev pub bool_byte : Bool → ℕ
-bool_byte b = if b then 1 else 0
 
 -- a reply as it stands in a slot: behind number 0 no reply stands, and none has bytes
 abbrev pub kept_bytes : ℕ → Reply → List ℕ

@@ -3,7 +3,8 @@ ghost use Rattle.cal_fields.specs.Padded.{zeros};
 ghost use Rattle.tree_law.specs.declared.reply.Reply.{Reply};
 ghost use Rattle.change_reply.specs.ReplyBytes.{IsChangeReply, reply_bytes};
 ghost use Rattle.request_log.specs.declared.slot.Slot.{Slot};
-ghost use Rattle.request_log.specs.Slot.{IsKept, SpellsSlot, bool_byte, head_bytes, kept_bytes};
+ghost use Rattle.cal_fields.specs.Flag.{bool_byte};
+ghost use Rattle.request_log.specs.Slot.{IsKept, SpellsSlot, head_bytes, kept_bytes};
 ghost use Rattle.request_log.specs.Kept.{IsLast, StandsBehind};
 
 use crate::slot::Slot;

@@ -1,11 +1,8 @@
 use Rattle.std.specs.Prelude.{◌≡◌, ◌≤◌, ◌<◌, ◌^◌, ◌+◌, ◌/◌, ◌%◌, ℕ, Bool, true, ◌&&◌, nat_eq, nat_le, nat_lt, if◌then◌else◌, IsTrue, Option, Some, None, List, [], ◌∷◌, All, length, slice_index}
 use Rattle.std.specs.Map.{lookup}
+use Rattle.cal_base.specs.Blocks.{block_count}
 use Rattle.token_kind.specs.Hold.{hold_number}
 use Rattle.token_kind.specs.declared.flush.Flush.{Flush}
-
--- how many blocks hold so many bytes
-abbrev pub block_count : ℕ → ℕ
-block_count bytes = (bytes + 4095) / 4096
 
 -- the bytes of the piece with this index, where there is one
 abbrev pub piece_at : List (ℕ × List ℕ) → ℕ → Option (List ℕ)

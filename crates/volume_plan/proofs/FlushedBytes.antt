@@ -4,7 +4,8 @@ use Rattle.std.proofs.lemmas.Bool.{cases_lt, cond-false, cond-true, le-ltb, lt-l
 use Rattle.std.proofs.lemmas.List.{get_or_past}
 use Rattle.journal.specs.Layout.{sector}
 use Rattle.shared_disk.specs.Sectors.{written}
-use Rattle.token_kind.specs.Flush.{IsFlushed, block_count, byte_by, flushed_byte, piece_at}
+use Rattle.cal_base.specs.Blocks.{block_count}
+use Rattle.token_kind.specs.Flush.{IsFlushed, byte_by, flushed_byte, piece_at}
 use Rattle.token_kind.specs.declared.flush.Flush.{Flush}
 use Rattle.volume.specs.Stands.{AreBlocksKept}
 use Rattle.volume.specs.Volume.{SpellsVolume, Volume, byte_behind, file_byte}

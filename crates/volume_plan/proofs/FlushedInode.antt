@@ -8,7 +8,8 @@ use Rattle.inode.specs.declared.inode.Inode.{Inode}
 use Rattle.inode.specs.declared.inode.Kind.{Kind}
 use Rattle.inode.specs.declared.inode.Kind.TheVariants.{File}
 use Rattle.inode.proofs.InodeLemmas.{small_zeros}
-use Rattle.token_kind.specs.Flush.{IsFlush, block_count}
+use Rattle.cal_base.specs.Blocks.{block_count}
+use Rattle.token_kind.specs.Flush.{IsFlush}
 use Rattle.token_kind.specs.declared.flush.Flush.{Flush}
 use Rattle.volume.specs.Stands.{AreBlocksKept, Points}
 use Rattle.volume.specs.Volume.{Volume}

@@ -1,7 +1,7 @@
 -- The plan of a flush: its blocks go to the least free data blocks, and the inode points at them.
 use Rattle.std.specs.Prelude.{◌≡◌, ◌≤◌, ◌<◌, ◌+◌, ◌-◌, ◌^◌, ◌%◌, ◌++◌, ℕ, suc, Bool, true, false, List, [], ◌∷◌, length, replicate, take, slice_index, slice_set, Option, Some, None}
 use Rattle.cal_base.specs.declared.identity.ClientId.{ClientId}
-use Rattle.inode.specs.Inode.{block_count}
+use Rattle.cal_base.specs.Blocks.{block_count}
 use Rattle.inode.specs.declared.inode.Inode.{Inode}
 use Rattle.inode.specs.declared.inode.Kind.TheVariants.{File}
 use Rattle.shared_disk.specs.Sectors.{cut, written}

@@ -1,4 +1,5 @@
 use Rattle.std.specs.Prelude.{◌≡◌, ◌<◌, ◌+◌, ◌-◌, ◌^◌, ℕ, min, List, length, take, Some, Result, Ok, Err}
+use Rattle.cal_base.specs.Limits.{block_size}
 use Rattle.shared_disk.specs.Disk.{Disk, after}
 use Rattle.shared_disk.specs.Sectors.{left_of}
 use Rattle.shared_disk.specs.declared.stop.Stop.{Stop}
@@ -18,7 +19,7 @@ pub record FailsAmong (port : PortState) (old : Disk) (writes : List (ℕ × Lis
   pub made : ℕ
   pub within : made < length writes
   pub left : List ℕ
-  pub whole : length left ≡ 4096
+  pub whole : length left ≡ block_size
   pub accepted : port' ≡ accepting_all port (take made writes)
   pub changed : new ≡ after old (left_of writes made (Some left))
 

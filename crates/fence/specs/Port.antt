@@ -1,4 +1,5 @@
-use Rattle.std.specs.Prelude.{◌≡◌, ◌+◌, ◌-◌, ◌^◌, ◌⊎◌, ◌++◌, ℕ, min, nat_eq, if◌then◌else◌, List, [], ◌∷◌, length, take, Option, Some, None, Result, Ok, Err}
+use Rattle.std.specs.Prelude.{◌≡◌, ◌-◌, ◌⊎◌, ◌++◌, ℕ, nat_eq, if◌then◌else◌, List, [], ◌∷◌, length, take, Option, Some, None, Result, Ok, Err}
+use Rattle.cal_base.specs.Faults.{counted_up}
 use Rattle.cal_base.specs.declared.identity.View.{View}
 use Rattle.shared_disk.specs.Disk.{Disk, after, fenced, MeetsOther, LeavesAny}
 use Rattle.shared_disk.specs.declared.stop.Stop.{Stop}
@@ -34,7 +35,7 @@ fresh view = record { view = view; accepted = 0; stop = None; kept = record { wr
 
 -- the port after it accepted this write: it is counted, and kept if there is room
 abbrev pub accepting : PortState → ℕ × List ℕ → PortState
-accepting port write = record port { accepted = min (port.accepted + 1) (2 ^ 64 - 1); kept = keeping port.kept write }
+accepting port write = record port { accepted = counted_up port.accepted; kept = keeping port.kept write }
 
 -- the port after it accepted these writes, in order
 abbrev pub accepting_all : PortState → List (ℕ × List ℕ) → PortState

@@ -1,5 +1,6 @@
 ghost use Rattle.std.specs.Prelude.{◌≡◌, ◌≤◌, ◌<◌, ◌+◌, ◌-◌, List, [], All, length, OnOk, IfErr, IfSome, IfNone, vec_len, vec_capacity};
 ghost use Rattle.std.specs.Option.{option_copied};
+ghost use Rattle.cal_base.specs.Limits as limits;
 ghost use Rattle.cal_base.specs.Faults.{Rose};
 ghost use Rattle.shared_disk.specs.Disk.{Reads, TellsWhole};
 ghost use Rattle.fence.specs.Port.{PortWrites, Takes, due, accepting};
@@ -109,7 +110,7 @@ impl Port {
         sector: u32,
         into: &mut Sector,
     ) -> Result<(), DiskRefusal>
-        requires { sector < 2596 }
+        requires { sector < limits.sectors }
         ensures reads { Reads (D.means disk.old) self.now.view sector into.new result }
         ensures same { D.means disk.new ≡ D.means disk.old }
         ensures whole { OnOk result (TellsWhole (D.means disk.new)) }
@@ -129,7 +130,7 @@ impl Port {
         sector: u32,
         from: &Sector,
     ) -> Result<(), PortHalt>
-        requires within { sector < 2596 }
+        requires within { sector < limits.sectors }
         requires room { 0 < (D.means disk.old).room }
         ensures writes { PortWrites self.old (D.means disk.old) sector from.now result self.new (D.means disk.new) }
         ensures whole { OnOk result (TellsWhole (D.means disk.new)) }
@@ -177,7 +178,7 @@ impl Port {
         disk: &mut D,
         writes: &[(u32, Sector)],
     ) -> Result<(), PortHalt>
-        requires within { All (λ w. w.0 < 2596) writes.now }
+        requires within { All (λ w. w.0 < limits.sectors) writes.now }
         requires room { length writes.now ≤ (D.means disk.old).room }
         ensures { Runs self.old (D.means disk.old) (D.fault_count disk.old) writes.now result self.new (D.means disk.new) (D.fault_count disk.new) }
     {

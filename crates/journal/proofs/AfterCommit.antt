@@ -3,6 +3,7 @@ use Rattle.std.proofs.Common.{◌≡◌, ◌<◌, ℕ, Bool, true, if◌then◌e
 use Rattle.std.specs.Prelude.{OnOk, OnErr}
 use Rattle.std.specs.List.{slice_set}
 use Rattle.std.proofs.lemmas.List.{length-set}
+use Rattle.cal_base.specs.Limits as limits
 use Rattle.shared_disk.specs.Disk.{Disk, after, written_if_told}
 use Rattle.shared_disk.specs.Homes.{IsTransaction}
 use Rattle.shared_disk.specs.Sectors.{written, left_of}
@@ -36,15 +37,15 @@ told_after s made d d' told e = ap (λ (x : Disk). x.sectors) e ∙ ap (λ (o : 
 leaves : (s : List (List ℕ)) (hs made : List (ℕ × List ℕ)) (d d' : Disk) → d.sectors ≡ Some s → d' ≡ after d made → replayed (written s made) ≡ Some (before_or_after s hs made) → IsBeforeOrAfter s hs d d'
 leaves s hs made d d' told e law = record { made = made; changes = ap (λ (x : Disk). x.changes) e; left = told_after s made d d' told e; replays = law }
 
-pub law_at : (s : List (List ℕ)) (hs : List (ℕ × List ℕ)) (k : ℕ) (t : Option (List ℕ)) → length s ≡ 2596 → IsClosed s → IsTransaction hs → replayed (written s (left_of (commit_writes hs) k t)) ≡ Some (before_or_after s hs (left_of (commit_writes hs) k t))
+pub law_at : (s : List (List ℕ)) (hs : List (ℕ × List ℕ)) (k : ℕ) (t : Option (List ℕ)) → length s ≡ limits.sectors → IsClosed s → IsTransaction hs → replayed (written s (left_of (commit_writes hs) k t)) ≡ Some (before_or_after s hs (left_of (commit_writes hs) k t))
 law_at s hs k t whole closed txn = at_cut (Either s hs) s (commit_writes hs) (each_moment s hs whole closed txn) k t
 
-law_all : (s : List (List ℕ)) (hs : List (ℕ × List ℕ)) → length s ≡ 2596 → IsClosed s → IsTransaction hs → replayed (written s (commit_writes hs)) ≡ Some (before_or_after s hs (commit_writes hs))
+law_all : (s : List (List ℕ)) (hs : List (ℕ × List ℕ)) → length s ≡ limits.sectors → IsClosed s → IsTransaction hs → replayed (written s (commit_writes hs)) ≡ Some (before_or_after s hs (commit_writes hs))
 law_all s hs whole closed txn =
     subst (λ (ws : List (ℕ × List ℕ)). replayed (written s ws) ≡ Some (before_or_after s hs ws)) (left_all (commit_writes hs)) (law_at s hs (length (commit_writes hs)) None whole closed txn)
 
 pub commit_leaves : (s : List (List ℕ)) (hs : List (ℕ × List ℕ)) (p : PortState) (d : Disk) (f : ℕ) (r : Result (Unit {0}) PortHalt) (p' : PortState) (d' : Disk) (f' : ℕ) → Runs p d f (commit_writes hs) r p' d' f'
-    → d.sectors ≡ Some s → length s ≡ 2596 → IsClosed s → IsTransaction hs → IsBeforeOrAfter s hs d d'
+    → d.sectors ≡ Some s → length s ≡ limits.sectors → IsClosed s → IsTransaction hs → IsBeforeOrAfter s hs d d'
 commit_leaves s hs p d f (Ok done) p' d' f' a told whole closed txn =
     leaves s hs (commit_writes hs) d d' told (all_after (commit_writes hs) p d p' d' a.makes) (law_all s hs whole closed txn)
 commit_leaves s hs p d f (Err halt) p' d' f' a told whole closed txn =
@@ -60,7 +61,7 @@ pub last_stands : (ws : List (ℕ × List ℕ)) (x : List (List ℕ)) (i : ℕ) 
 last_stands [] x i g h = sector_same x i g h
 last_stands (w ∷ ws) x i g h = let e = length-set x w.0 w.1 in last_stands ws (slice_set x w.0 w.1) i g (omega arith)
 
-commit_closes : (s : List (List ℕ)) (hs : List (ℕ × List ℕ)) → length s ≡ 2596 → IsClosed (written s (commit_writes hs))
+commit_closes : (s : List (List ℕ)) (hs : List (ℕ × List ℕ)) → length s ≡ limits.sectors → IsClosed (written s (commit_writes hs))
 commit_closes s hs long =
     let x = slice_set s 2 (header_of hs) in
     let z = slice_set (written x (contents_at 3 hs)) 1 (gate_of 1) in
@@ -71,7 +72,7 @@ commit_closes s hs long =
     ap (λ (y : List (List ℕ)). opens (sector y 1)) (sym split) ∙ ap opens (last_stands hs z 1 (gate_of 0) (omega arith)) ∙ gate_closes
 
 pub commit_ends : (s : List (List ℕ)) (hs : List (ℕ × List ℕ)) (p : PortState) (d : Disk) (f : ℕ) (r : Result (Unit {0}) PortHalt) (p' : PortState) (d' : Disk) (f' : ℕ) → Runs p d f (commit_writes hs) r p' d' f'
-    → d.sectors ≡ Some s → length s ≡ 2596 → IsClosed s → IsTransaction hs → OnOk r (IsCommitted s hs d')
+    → d.sectors ≡ Some s → length s ≡ limits.sectors → IsClosed s → IsTransaction hs → OnOk r (IsCommitted s hs d')
 commit_ends s hs p d f (Ok done) p' d' f' a told whole closed txn =
     let now = written s (commit_writes hs) in
     let shut = commit_closes s hs whole in

@@ -2,6 +2,7 @@
 use Rattle.std.proofs.Common.{◌≡◌, ◌≢◌, ◌≤◌, ◌+◌, ℕ, List, [], ◌∷◌, ◌++◌, length, Option, Some, None, Result, Ok, Err, refl, sym, ap, ◌∙◌, subst, inl, inr, arith, append_assoc, length-append}
 use Rattle.std.specs.Prelude.{OnOk, IsErrAnd}
 use Rattle.std.proofs.lemmas.List.{append-nil}
+use Rattle.cal_base.specs.Limits as limits
 use Rattle.shared_disk.specs.Disk.{Disk, after}
 use Rattle.shared_disk.specs.Sectors.{written}
 use Rattle.shared_disk.specs.declared.stop.Stop.{Stop}
@@ -59,7 +60,7 @@ attempts_nothing all p d f none = record { tried = []; ends = runs_nothing p d f
 
 -- a call, and after Ok another
 pub attempts_then : (all first second : List (List ℕ) → List (ℕ × List ℕ)) (m n : ℕ) (p : PortState) (d : Disk) (f : ℕ) (p1 : PortState) (d1 : Disk) (f1 : ℕ) (r : Result (Unit {0}) PortHalt) (p2 : PortState) (d2 : Disk) (f2 : ℕ)
-    → ((s : List (List ℕ)) → length s ≡ 2596 → all s ≡ first s ++ second (written s (first s)))
+    → ((s : List (List ℕ)) → length s ≡ limits.sectors → all s ≡ first s ++ second (written s (first s)))
     → Attempts first m p d f (Ok tt) p1 d1 f1 → Attempts second n p1 d1 f1 r p2 d2 f2 → Attempts all (m + n) p d f r p2 d2 f2
 attempts_then all first second m n p d f p1 d1 f1 r p2 d2 f2 joined a b =
     record {
@@ -83,7 +84,7 @@ attempts_then all first second m n p d f p1 d1 f1 r p2 d2 f2 joined a b =
 
 -- a call that halted, within more
 pub attempts_early : (all first : List (List ℕ) → List (ℕ × List ℕ)) (more : List (List ℕ) → List (ℕ × List ℕ)) (m n : ℕ) (p : PortState) (d : Disk) (f : ℕ) (halt : PortHalt) (r : Result (Unit {0}) PortHalt) (p1 : PortState) (d1 : Disk) (f1 : ℕ)
-    → ((s : List (List ℕ)) → length s ≡ 2596 → all s ≡ first s ++ more s) → m ≤ n → Attempts first m p d f (Err halt) p1 d1 f1 → IsErrAnd r (λ e. e ≡ halt) → Attempts all n p d f r p1 d1 f1
+    → ((s : List (List ℕ)) → length s ≡ limits.sectors → all s ≡ first s ++ more s) → m ≤ n → Attempts first m p d f (Err halt) p1 d1 f1 → IsErrAnd r (λ e. e ≡ halt) → Attempts all n p d f r p1 d1 f1
 attempts_early all first more m n p d f halt r p1 d1 f1 joined less a h =
     let early : Attempts all n p d f (Err halt) p1 d1 f1 = record {
       tried = a.tried;
@@ -100,7 +101,7 @@ attempts_early all first more m n p d f halt r p1 d1 f1 joined less a h =
 
 -- the same writes, otherwise said, and at most more of them
 pub attempts_as : (all again : List (List ℕ) → List (ℕ × List ℕ)) (m n : ℕ) (p : PortState) (d : Disk) (f : ℕ) (r : Result (Unit {0}) PortHalt) (p1 : PortState) (d1 : Disk) (f1 : ℕ)
-    → ((s : List (List ℕ)) → length s ≡ 2596 → again s ≡ all s) → m ≤ n → Attempts all m p d f r p1 d1 f1 → Attempts again n p d f r p1 d1 f1
+    → ((s : List (List ℕ)) → length s ≡ limits.sectors → again s ≡ all s) → m ≤ n → Attempts all m p d f r p1 d1 f1 → Attempts again n p d f r p1 d1 f1
 attempts_as all again m n p d f r p1 d1 f1 same less a = record {
   tried = a.tried;
   ends = a.ends;

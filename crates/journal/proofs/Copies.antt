@@ -5,6 +5,7 @@ use Rattle.std.specs.List.{list_all}
 use Rattle.std.proofs.lemmas.Bool.{leb-true}
 use Rattle.std.proofs.lemmas.List.{drop-drop, get_or-drop, get_or-take, length-take-le, take_all}
 use Rattle.std.proofs.lemmas.Option.{get_or_from_slice_get}
+use Rattle.cal_base.specs.Limits as limits
 use Rattle.byteorder.specs.Endian.{big_number}
 use Rattle.shared_disk.specs.Disk.{Disk, SectorIs}
 use Rattle.shared_disk.specs.Homes.{are_ascending}
@@ -108,11 +109,11 @@ apart (w ∷ ws) j low high h = ((λ e. elim h.0 [ inl none ↦ omega arith | in
 body_at : (s : List (List ℕ)) (i : ℕ) → i < 16 → get_or (body s) i [] ≡ sector s (3 + i)
 body_at s i h = get_or-drop 3 (take 19 s) i [] ∙ get_or-take 19 s (3 + i) [] (omega arith)
 
-pub length-body : (s : List (List ℕ)) → length s ≡ 2596 → length (body s) ≡ 16
+pub length-body : (s : List (List ℕ)) → length s ≡ limits.sectors → length (body s) ≡ 16
 length-body s l = let t = length-take-le 19 s (omega arith) in let d = length-drop 3 (take 19 s) in omega arith
 
 -- the next home is written with what stands in its place of the body, also after the homes before it
-pub next_copy : (header : List ℕ) (s : List (List ℕ)) (i home : ℕ) → is_header header ≡ true → i < slice_index header 0 → home ≡ big_number 4 (drop (1 + 4 * i) header) → length s ≡ 2596
+pub next_copy : (header : List ℕ) (s : List (List ℕ)) (i home : ℕ) → is_header header ≡ true → i < slice_index header 0 → home ≡ big_number 4 (drop (1 + 4 * i) header) → length s ≡ limits.sectors
     → take (i + 1) (with_contents (homes_in header) (body s)) ≡ take i (with_contents (homes_in header) (body s)) ++ (home, sector (written s (take i (with_contents (homes_in header) (body s)))) (3 + i)) ∷ []
 next_copy header s i home good h e l =
     let g = good_header header good in

@@ -6,6 +6,8 @@ use Rattle.std.proofs.lemmas.List.{drop_at, drop-drop, append-nil, take-append-d
 use Rattle.std.proofs.Common.{take, get_or, add-one}
 use Rattle.std.proofs.lemmas.Bool.{leb-true, ltb-true, le-leb, false≢true}
 use Rattle.std.specs.Cmp.Derive.{both_true}
+use Rattle.shared_disk.specs.Map.{at_head, at_map}
+use Rattle.cal_base.specs.Limits as limits
 use borrow.Author.Tests.{eqb-true}
 use Rattle.byteorder.specs.Endian.{big_number}
 use Rattle.cal_fields.specs.BigEndian.{big_endian}
@@ -30,12 +32,12 @@ or_cases false b h = inr h
 -- a home is the head or behind the journal's body, and on the disk
 pub record HomeIs (home : ℕ) : Type 0 where
   pub place : (home ≡ 0) ⊎ (19 ≤ home)
-  pub below : home < 2596
+  pub below : home < limits.sectors
 
 pub home_is : (home : ℕ) → is_home home ≡ true → HomeIs home
-home_is home h = elim (or_cases (nat_eq home 0) (nat_le 19 home && nat_lt home 2596) h) [
+home_is home h = elim (or_cases (nat_eq home at_head) (nat_le at_map home && nat_lt home limits.sectors) h) [
   | inl e ↦ (let none : home ≡ 0 = eqb-true home 0 e in record { place = inl none; below = omega arith })
-  | inr e ↦ record { place = inr (leb-true 19 home (and_left _ _ e)); below = ltb-true home 2596 (and_right _ _ e) }
+  | inr e ↦ record { place = inr (leb-true at_map home (and_left _ _ e)); below = ltb-true home limits.sectors (and_right _ _ e) }
 ]
 
 -- what ascending homes say of the first and of the others
@@ -171,6 +173,6 @@ length-contents_at [] at = refl
 length-contents_at (h ∷ hs) at = let e = length-contents_at hs (suc at) in omega arith
 
 -- homes are sectors of the disk
-pub homes_below : (homes : List (ℕ × List ℕ)) (least : ℕ) → IsTrue (are_ascending least (sectors_of homes)) → AllByRecursion (λ w. w.0 < 2596) homes
+pub homes_below : (homes : List (ℕ × List ℕ)) (least : ℕ) → IsTrue (are_ascending least (sectors_of homes)) → AllByRecursion (λ w. w.0 < limits.sectors) homes
 homes_below [] least h = tt
 homes_below (w ∷ ws) least h = let next = next_home least w.0 (sectors_of ws) h in (next.good.below, homes_below ws (w.0 + 1) next.others)

@@ -3,6 +3,7 @@ use Rattle.std.proofs.Common.{◌≡◌, ◌≢◌, ◌⊎◌, ◌≤◌, ◌<�
 use Rattle.std.specs.Prelude.{IsTrue}
 use Rattle.std.specs.List.{slice_set}
 use Rattle.std.proofs.lemmas.List.{length-take-le, get_or-take, length-set}
+use Rattle.cal_base.specs.Limits as limits
 use Rattle.cal_fields.specs.Padded.{padded}
 use Rattle.shared_disk.specs.Homes.{IsTransaction, are_ascending, sectors_of}
 use Rattle.shared_disk.specs.Sectors.{written}
@@ -24,7 +25,7 @@ replays_closed x o = ap (λ (b : Bool). if b then (if is_header (sector x 2) the
 
 -- the header and the contents spell a transaction
 pub record Spells (hs : List (ℕ × List ℕ)) (x : List (List ℕ)) : Type 0 where
-  pub long : length x ≡ 2596
+  pub long : length x ≡ limits.sectors
   pub good : is_header (sector x 2) ≡ true
   pub names : homes_in (sector x 2) ≡ sectors_of hs
   pub contents : with_contents (sectors_of hs) (body x) ≡ hs
@@ -65,7 +66,7 @@ contents_read (h ∷ hs) at x few long =
 abbrev pub body_writes : List (ℕ × List ℕ) → List (ℕ × List ℕ)
 body_writes hs = (2, header_of hs) ∷ contents_at 3 hs
 
-body_spells : (s : List (List ℕ)) (hs : List (ℕ × List ℕ)) → length s ≡ 2596 → length hs ≤ 16 → IsTransaction hs → Spells hs (written s (body_writes hs))
+body_spells : (s : List (List ℕ)) (hs : List (ℕ × List ℕ)) → length s ≡ limits.sectors → length hs ≤ 16 → IsTransaction hs → Spells hs (written s (body_writes hs))
 body_spells s hs long few t =
     let y = slice_set s 2 (header_of hs) in
     let same : length y ≡ length s = length-set s 2 (header_of hs) in
@@ -185,7 +186,7 @@ ending s hs x t o =
     (open_replays hs done y q, torn, torn (gate_of 0)))
 
 -- each moment of a commit
-pub each_moment : (s : List (List ℕ)) (hs : List (ℕ × List ℕ)) → length s ≡ 2596 → IsClosed s → IsTransaction hs → Throughout (Either s hs) false s (commit_writes hs)
+pub each_moment : (s : List (List ℕ)) (hs : List (ℕ × List ℕ)) → length s ≡ limits.sectors → IsClosed s → IsTransaction hs → Throughout (Either s hs) false s (commit_writes hs)
 each_moment s hs w closed t =
     let count = w in
     let few = t.few in

@@ -2,6 +2,7 @@
 use Rattle.std.proofs.Common.{◌≡◌, ◌≢◌, ◌⊎◌, ◌≤◌, ◌<◌, ◌+◌, ◌*◌, ℕ, zero, suc, Bool, true, false, ◌&&◌, if◌then◌else◌, List, [], ◌∷◌, ◌++◌, length, take, get_or, Option, Some, None, Result, Ok, Err, refl, sym, ap, ◌∙◌, subst, inl, inr, arith, length-append}
 use Rattle.std.proofs.lemmas.Bool.{ne_eqb}
 use Rattle.std.proofs.lemmas.List.{append-nil, length-take-le, take_all}
+use Rattle.cal_base.specs.Limits as limits
 use Rattle.shared_disk.specs.Disk.{Disk, KeepsCount, after}
 use Rattle.shared_disk.specs.Homes.{IsTransaction}
 use Rattle.shared_disk.specs.Sectors.{written, left_of}
@@ -110,7 +111,7 @@ either_way s hs now false e = inr e
 
 -- the kept writes are those that were made
 tells_made : (s : List (List ℕ)) (hs kept before : List (ℕ × List ℕ)) (k : ℕ) (t : Option (List ℕ)) (r : Result (Unit {0}) PortHalt) (d d' : Disk)
-    → d.sectors ≡ Some s → length s ≡ 2596 → IsClosed s → IsTransaction hs
+    → d.sectors ≡ Some s → length s ≡ limits.sectors → IsClosed s → IsTransaction hs
     → d' ≡ after d (left_of (commit_writes hs) k t) → kept ≡ before ++ left_of (commit_writes hs) k t → TellsOpening s hs (length before) r kept d'
 tells_made s hs kept before k t r d d' told long closed txn e is =
     let made = left_of (commit_writes hs) k t in
@@ -126,7 +127,7 @@ tells_made s hs kept before k t r d d' told long closed txn e is =
 
 -- a write failed, which isn't kept
 tells_failed : (s : List (List ℕ)) (hs kept before : List (ℕ × List ℕ)) (k : ℕ) (t : List ℕ) (d d' : Disk)
-    → d.sectors ≡ Some s → length s ≡ 2596 → IsClosed s → IsTransaction hs → k < length (commit_writes hs)
+    → d.sectors ≡ Some s → length s ≡ limits.sectors → IsClosed s → IsTransaction hs → k < length (commit_writes hs)
     → d' ≡ after d (left_of (commit_writes hs) k (Some t)) → kept ≡ before ++ take k (commit_writes hs) → TellsOpening s hs (length before) (Err Failed) kept d'
 tells_failed s hs kept before k t d d' told long closed txn within e is =
     let made = left_of (commit_writes hs) k (Some t) in
@@ -145,7 +146,7 @@ tells_failed s hs kept before k t d d' told long closed txn within e is =
     }
 
 pub tells_opening : (s : List (List ℕ)) (hs : List (ℕ × List ℕ)) (p : PortState) (d : Disk) (f : ℕ) (r : Result (Unit {0}) PortHalt) (p' : PortState) (d' : Disk) (f' : ℕ) → Runs p d f (commit_writes hs) r p' d' f'
-    → d.sectors ≡ Some s → length s ≡ 2596 → IsClosed s → IsTransaction hs → 2 * length hs + 3 ≤ p.kept.space → TellsOpening s hs (length p.kept.writes) r p'.kept.writes d'
+    → d.sectors ≡ Some s → length s ≡ limits.sectors → IsClosed s → IsTransaction hs → 2 * length hs + 3 ≤ p.kept.space → TellsOpening s hs (length p.kept.writes) r p'.kept.writes d'
 tells_opening s hs p d f (Ok done) p' d' f' a told long closed txn room =
     let e = ends_as (commit_writes hs) p d (Ok tt) p' d' a.makes in
     let all = left_all (commit_writes hs) in

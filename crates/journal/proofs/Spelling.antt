@@ -1,9 +1,10 @@
 -- A header in its grammar is the header of the homes that it names.
-use Rattle.std.proofs.Common.{◌≡◌, ◌≤◌, ◌<◌, ◌+◌, ◌-◌, ◌*◌, ℕ, zero, suc, Bool, true, ◌&&◌, nat_eq, nat_le, List, [], ◌∷◌, ◌++◌, length, take, drop, slice_index, refl, sym, ap, ◌∙◌, arith}
+use Rattle.std.proofs.Common.{◌≡◌, ◌≤◌, ◌<◌, ◌+◌, ◌-◌, ◌*◌, ℕ, zero, suc, true, ◌&&◌, nat_eq, nat_le, List, [], ◌∷◌, ◌++◌, length, take, drop, slice_index, refl, sym, ap, ◌∙◌, arith}
 use Rattle.std.specs.Prelude.{IsTrue}
 use Rattle.std.specs.List.{list_all}
 use Rattle.std.proofs.lemmas.List.{take-append-drop, length-drop}
 use Rattle.std.proofs.lemmas.Bool.{leb-true}
+use Rattle.cal_base.specs.Limits.{block_size}
 use borrow.Author.Tests.{eqb-true}
 use Rattle.byteorder.specs.Endian.{big_number}
 use Rattle.cal_fields.specs.BigEndian.{big_endian}
@@ -90,7 +91,7 @@ spelling count rest homes long fits good e =
     ap (λ (n : ℕ). n ∷ rest) (sym same) ∙ ap (λ (xs : List ℕ). length homes ∷ xs) (sym (take-append-drop (4 * count) rest) ∙ body)
 
 -- a sector in a header's grammar is the header of the homes that it names
-pub one_spelling : (header : List ℕ) (homes : List (ℕ × List ℕ)) → length header ≡ 4096 → ((i : ℕ) → slice_index header i < 256)
+pub one_spelling : (header : List ℕ) (homes : List (ℕ × List ℕ)) → length header ≡ block_size → ((i : ℕ) → slice_index header i < 256)
     → IsTrue (is_header header) → homes_in header ≡ sectors_of homes → header ≡ header_of homes
 one_spelling [] homes long fits good e = absurd (omega arith)
 one_spelling (count ∷ rest) homes long fits good e = spelling count rest homes long fits good e

@@ -24,6 +24,7 @@ use Rattle.journal.proofs.Law.{Either, Open, Spells, ending, open_replays, repla
 use Rattle.journal.proofs.Moments.{at_cut_open}
 use Rattle.journal.proofs.Sectors.{outside_written}
 use Rattle.std.specs.Prelude.{slice_index, drop}
+use Rattle.cal_base.specs.Limits as limits
 use Rattle.shared_disk.specs.Homes.{are_ascending}
 
 sectors_of-with : (ns : List ℕ) (cs : List (List ℕ)) → length ns ≤ length cs → sectors_of (with_contents ns cs) ≡ ns
@@ -41,7 +42,7 @@ record Spelt (s : List (List ℕ)) : Type 0 where
   pub txn : IsTransaction (spelled s)
   pub spells : Spells (spelled s) s
 
-spelt : (s : List (List ℕ)) → length s ≡ 2596 → is_header (sector s 2) ≡ true → Spelt s
+spelt : (s : List (List ℕ)) → length s ≡ limits.sectors → is_header (sector s 2) ≡ true → Spelt s
 spelt s l good =
     let g = good_header (sector s 2) good in
     let few = g.few in
@@ -63,7 +64,7 @@ record OpenAt (s volume : List (List ℕ)) : Type 0 where
   pub open_now : Open (spelled s) volume s
   pub volume_is : written (outside s) (spelled s) ≡ volume
 
-open_at : (s volume : List (List ℕ)) → length s ≡ 2596 → opens (sector s 1) ≡ true → is_header (sector s 2) ≡ true → replayed s ≡ Some volume → OpenAt s volume
+open_at : (s volume : List (List ℕ)) → length s ≡ limits.sectors → opens (sector s 1) ≡ true → is_header (sector s 2) ≡ true → replayed s ≡ Some volume → OpenAt s volume
 open_at s volume l o good h =
     let is = spelt s l good in
     let g = good_header (sector s 2) good in
@@ -84,17 +85,17 @@ no_volume s volume o bad h =
     ∙ ap (λ (b : Bool). if b then Some (outside (written s (spelled s))) else None) bad in
     absurd (cc)
 
-stable_by : (b g : Bool) (s volume : List (List ℕ)) (k : ℕ) (t : Option (List ℕ)) → length s ≡ 2596 → opens (sector s 1) ≡ b → is_header (sector s 2) ≡ g → replayed s ≡ Some volume
+stable_by : (b g : Bool) (s volume : List (List ℕ)) (k : ℕ) (t : Option (List ℕ)) → length s ≡ limits.sectors → opens (sector s 1) ≡ b → is_header (sector s 2) ≡ g → replayed s ≡ Some volume
     → replayed (written s (left_of (if b then spelled s ++ (1, gate_of 0) ∷ [] else []) k t)) ≡ Some volume
 stable_by false g s volume k t l o good h = h
 stable_by true true s volume k t l o good h = cut_open s volume k t (open_at s volume l o good h)
 stable_by true false s volume k t l o good h = absurd (no_volume s volume o good h)
 
-pub stable : (s volume : List (List ℕ)) (k : ℕ) (t : Option (List ℕ)) → length s ≡ 2596 → replayed s ≡ Some volume → replayed (written s (left_of (replay_writes s) k t)) ≡ Some volume
+pub stable : (s volume : List (List ℕ)) (k : ℕ) (t : Option (List ℕ)) → length s ≡ limits.sectors → replayed s ≡ Some volume → replayed (written s (left_of (replay_writes s) k t)) ≡ Some volume
 stable s volume k t l h = stable_by (opens (sector s 1)) (is_header (sector s 2)) s volume k t l refl refl h
 
 -- after all of its writes the gate is closed
-closed_by : (b : Bool) (s : List (List ℕ)) → length s ≡ 2596 → opens (sector s 1) ≡ b → IsClosed (written s (if b then spelled s ++ (1, gate_of 0) ∷ [] else []))
+closed_by : (b : Bool) (s : List (List ℕ)) → length s ≡ limits.sectors → opens (sector s 1) ≡ b → IsClosed (written s (if b then spelled s ++ (1, gate_of 0) ∷ [] else []))
 closed_by false s l o = o
 closed_by true s l o = ap opens (last_stands (spelled s) s 1 (gate_of 0) (omega arith)) ∙ gate_closes
 
@@ -105,7 +106,7 @@ keeps_same : (s volume : List (List ℕ)) (halt : ReplayHalt) (d d' : Disk) → 
 keeps_same s volume halt d d' told e law = record { sectors_now = s; told = ap (λ (x : Disk). x.sectors) e ∙ told; replays = law; closed = tt }
 
 -- a halt within the first of some writes
-keeps_cut : (s volume : List (List ℕ)) (tried rest : List (ℕ × List ℕ)) (cause : PortHalt) (halt : ReplayHalt) (p : PortState) (d : Disk) (p' : PortState) (d' : Disk) → d.sectors ≡ Some s → length s ≡ 2596 → replayed s ≡ Some volume → replay_writes s ≡ tried ++ rest
+keeps_cut : (s volume : List (List ℕ)) (tried rest : List (ℕ × List ℕ)) (cause : PortHalt) (halt : ReplayHalt) (p : PortState) (d : Disk) (p' : PortState) (d' : Disk) → d.sectors ≡ Some s → length s ≡ limits.sectors → replayed s ≡ Some volume → replay_writes s ≡ tried ++ rest
     → HaltsIn p d tried cause p' d' → KeepsVolume volume (Err halt) d'
 keeps_cut s volume tried rest cause halt p d p' d' told l h split a =
     let c = halt_cut tried p d cause p' d' a in
@@ -118,12 +119,12 @@ none_left [] = refl
 none_left (w ∷ ws) = refl
 
 -- all of the first writes
-front_law : (s volume : List (List ℕ)) (tried rest : List (ℕ × List ℕ)) → length s ≡ 2596 → replayed s ≡ Some volume → replay_writes s ≡ tried ++ rest → replayed (written s tried) ≡ Some volume
+front_law : (s volume : List (List ℕ)) (tried rest : List (ℕ × List ℕ)) → length s ≡ limits.sectors → replayed s ≡ Some volume → replay_writes s ≡ tried ++ rest → replayed (written s tried) ≡ Some volume
 front_law s volume tried rest l h split =
     let first : tried ≡ left_of (tried ++ rest) (length tried + 0) None = sym (append-nil tried) ∙ ap (λ (ws : List (ℕ × List ℕ)). tried ++ ws) (sym (none_left rest)) ∙ left_of-back tried rest 0 None in
     ap (λ (ws : List (ℕ × List ℕ)). replayed (written s ws)) (first ∙ ap (λ (ws : List (ℕ × List ℕ)). left_of ws (length tried + 0) None) (sym split)) ∙ stable s volume (length tried + 0) None l h
 
-pub replay_keeps : (s volume : List (List ℕ)) (p : PortState) (d : Disk) (f : ℕ) (r : Result (Unit {0}) ReplayHalt) (p' : PortState) (d' : Disk) (f' : ℕ) → Replays p d f r p' d' f' → d.sectors ≡ Some s → length s ≡ 2596 → replayed s ≡ Some volume → KeepsVolume volume r d'
+pub replay_keeps : (s volume : List (List ℕ)) (p : PortState) (d : Disk) (f : ℕ) (r : Result (Unit {0}) ReplayHalt) (p' : PortState) (d' : Disk) (f' : ℕ) → Replays p d f r p' d' f' → d.sectors ≡ Some s → length s ≡ limits.sectors → replayed s ≡ Some volume → KeepsVolume volume r d'
 replay_keeps s volume p d f (Ok done) p' d' f' a told whole h =
     let x = a.told s told whole in
     let all : replay_writes s ≡ a.tried = x.split ∙ ap (λ (ws : List (ℕ × List ℕ)). a.tried ++ ws) x.whole ∙ append-nil a.tried in

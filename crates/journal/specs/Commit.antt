@@ -1,24 +1,29 @@
-use Rattle.std.specs.Prelude.{◌≡◌, ◌++◌, ℕ, Bool, true, false, ◌&&◌, nat_eq, if◌then◌else◌, List, [], ◌∷◌, Option, Some, None}
+use Rattle.std.specs.Prelude.{◌+◌, ◌*◌, ◌≡◌, ◌++◌, ℕ, Bool, true, false, ◌&&◌, nat_eq, if◌then◌else◌, List, [], ◌∷◌, Option, Some, None}
+use Rattle.shared_disk.specs.Map.{at_gate, at_header, first_content}
 use Rattle.shared_disk.specs.Disk.{Disk}
 use Rattle.shared_disk.specs.Sectors.{written}
-use Rattle.journal.specs.Layout.{gate_of, opens, header_of, contents_at, outside, sector, is_header, spelled}
+use Rattle.journal.specs.Layout.{open_gate, closed_gate, opens, header_of, contents_at, outside, sector, is_header, spelled}
 
 -- the writes of a commit, in order
 abbrev pub commit_writes : List (ℕ × List ℕ) → List (ℕ × List ℕ)
-commit_writes homes = (2, header_of homes) ∷ (contents_at 3 homes ++ (1, gate_of 1) ∷ (homes ++ (1, gate_of 0) ∷ []))
+commit_writes homes = (at_header, header_of homes) ∷ (contents_at first_content homes ++ (at_gate, open_gate) ∷ (homes ++ (at_gate, closed_gate) ∷ []))
+
+-- how many writes a commit of so many homes makes
+abbrev pub commit_length : ℕ → ℕ
+commit_length homes = 2 * homes + 3
 
 -- no transaction is under way: the gate is closed
 abbrev pub IsClosed : List (List ℕ) → Type 0
-IsClosed sectors = opens (sector sectors 1) ≡ false
+IsClosed sectors = opens (sector sectors at_gate) ≡ false
 
 -- the volume's sectors as a replay leaves them; none where an open gate's header is outside its grammar
 abbrev pub replayed : List (List ℕ) → Option (List (List ℕ))
 replayed sectors =
-    if opens (sector sectors 1) then (if is_header (sector sectors 2) then Some (outside (written sectors (spelled sectors))) else None) else Some (outside sectors)
+    if opens (sector sectors at_gate) then (if is_header (sector sectors at_header) then Some (outside (written sectors (spelled sectors))) else None) else Some (outside sectors)
 
 -- this write opens the gate
 abbrev pub opens_gate : ℕ → List ℕ → Bool
-opens_gate at bytes = nat_eq at 1 && opens bytes
+opens_gate at bytes = nat_eq at at_gate && opens bytes
 
 -- one of these writes left the gate open
 abbrev pub opened : List (ℕ × List ℕ) → Bool

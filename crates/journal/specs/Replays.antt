@@ -1,4 +1,6 @@
 use Rattle.std.specs.Prelude.{◌≡◌, ◌≤◌, ◌++◌, ◌⊎◌, ℕ, List, [], length, Some, None, IsSome, Result, Ok, Err, OnOk}
+use Rattle.cal_base.specs.Limits as limits
+use Rattle.shared_disk.specs.Map.{at_header}
 use Rattle.cal_base.specs.Faults.{Rose}
 use Rattle.shared_disk.specs.Disk.{Disk, MeetsOther}
 use Rattle.fence.specs.Port.{PortState}
@@ -8,7 +10,7 @@ use Rattle.journal.specs.declared.replay_halt.ReplayHalt.{ReplayHalt}
 use Rattle.journal.specs.declared.replay_halt.ReplayHalt.TheVariants.{Fenced, Failed, Stopped, Damaged}
 use Rattle.journal.specs.Layout.{outside}
 use Rattle.journal.specs.Commit.{IsClosed, replayed}
-use Rattle.journal.specs.Replay.{replay_writes}
+use Rattle.journal.specs.Replay.{replay_length, replay_writes}
 
 -- nothing was tried, and nothing changed
 pub record IsUntouched (port : PortState) (old : Disk) (tried : List (ℕ × List ℕ)) (port' : PortState) (new : Disk) : Type 0 where
@@ -24,7 +26,7 @@ ReplayEnds port old faults tried (Err (Fenced mine current)) port' new faults' =
 ReplayEnds port old faults tried (Err Failed) port' new faults' =
     (old.key ≡ port.view) × (Runs port old faults tried (Err Portfailed) port' new faults' ⊎ (Runs port old faults tried (Ok tt) port' new faults' × Rose faults faults'))
 ReplayEnds port old faults tried (Err Stopped) port' new faults' = (old.key ≡ port.view) × Runs port old faults tried (Err Portstopped) port' new faults'
-ReplayEnds port old faults tried (Err (Damaged at)) port' new faults' = (old.key ≡ port.view) × (at ≡ 2) × IsUntouched port old tried port' new
+ReplayEnds port old faults tried (Err (Damaged at)) port' new faults' = (old.key ≡ port.view) × (at ≡ at_header) × IsUntouched port old tried port' new
 
 -- a replay is damaged only where the header of an open gate is outside its grammar, and Ok only where it isn't
 abbrev pub Judges : List (List ℕ) → Result (Unit {0}) ReplayHalt → Type 0
@@ -45,9 +47,9 @@ pub record IsReplayOf (sectors : List (List ℕ)) (tried : List (ℕ × List ℕ
 pub record Replays (port : PortState) (old : Disk) (faults : ℕ) (result : Result (Unit {0}) ReplayHalt) (port' : PortState) (new : Disk) (faults' : ℕ) : Type 0 where
   pub tried : List (ℕ × List ℕ)
   pub ends : ReplayEnds port old faults tried result port' new faults'
-  pub few : length tried ≤ 17
+  pub few : length tried ≤ replay_length
   pub later : faults ≤ faults'
-  pub told : (sectors : List (List ℕ)) → old.sectors ≡ Some sectors → length sectors ≡ 2596 → IsReplayOf sectors tried result
+  pub told : (sectors : List (List ℕ)) → old.sectors ≡ Some sectors → length sectors ≡ limits.sectors → IsReplayOf sectors tried result
 
 -- a replay left the volume as it was; after Ok the gate is closed
 pub record KeepsVolume (volume : List (List ℕ)) (result : Result (Unit {0}) ReplayHalt) (new : Disk) : Type 0 where

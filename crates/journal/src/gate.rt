@@ -1,15 +1,13 @@
 ghost use Rattle.std.specs.Prelude.{◌≡◌, ◌<◌, ◌∷◌, []};
+ghost use Rattle.shared_disk.specs.Map.{at_gate};
 ghost use Rattle.fence.specs.Writes.{Runs};
 ghost use Rattle.journal.specs.Layout.{gate_of, opens};
 
 use crate::write_one::write_one;
-use cal_base::Sector;
+use cal_base::{BLOCK_SIZE, Sector};
 use cal_fields::SectorFields;
 use fence::{Port, PortHalt};
-use shared_disk::PortDisk;
-
-/// The sector of the gate.
-pub const GATE: u32 = 1;
+use shared_disk::{AT_GATE, PortDisk};
 
 /// Whether a gate is open: its first byte is 1.
 pub fn is_open(gate: &Sector) -> bool
@@ -21,10 +19,10 @@ pub fn is_open(gate: &Sector) -> bool
 /// Writes the gate with this first byte and zeros.
 pub fn write_gate<D: PortDisk>(port: &mut Port, disk: &mut D, first: u8) -> Result<(), PortHalt>
     requires { 0 < (D.means disk.old).room }
-    ensures { Runs port.old (D.means disk.old) (D.fault_count disk.old) ((1, gate_of first) ∷ []) result port.new (D.means disk.new) (D.fault_count disk.new) }
+    ensures { Runs port.old (D.means disk.old) (D.fault_count disk.old) ((at_gate, gate_of first) ∷ []) result port.new (D.means disk.new) (D.fault_count disk.new) }
 {
     let gate = gate_with(first);
-    write_one(port, disk, GATE, &gate)
+    write_one(port, disk, AT_GATE, &gate)
 }
 
 /// A gate with this first byte and zeros.
@@ -33,7 +31,7 @@ fn gate_with(first: u8) -> Sector
 {
     let mut fields = SectorFields::new();
     fields.put_u8(first);
-    let mut gate = [0; 4096];
+    let mut gate = [0; BLOCK_SIZE];
     fields.finish(&mut gate);
     gate
 }

@@ -1,22 +1,17 @@
 ghost use Rattle.std.specs.Prelude.{◌≡◌, ◌≤◌, ◌<◌, ◌+◌, ◌*◌, ℕ, IsTrue, List, length, drop, nat_eq, slice_index};
 ghost use Rattle.std.specs.List.{list_all};
 ghost use Rattle.byteorder.specs.Endian.{big_number};
-ghost use Rattle.cal_base.specs.Limits.{block_size};
+ghost use Rattle.cal_base.specs.Limits.{block_size, transaction_homes};
 ghost use Rattle.shared_disk.specs.Homes.{IsTransaction, are_ascending, is_home, sectors_of};
 ghost use Rattle.journal.specs.Layout.{header_of, is_header, homes_in};
 
-use cal_base::{SECTORS, Sector};
+use cal_base::{BLOCK_SIZE, SECTORS, Sector, TRANSACTION_HOMES};
 use cal_fields::{SectorFields, take_u32};
-
-/// The sector of the header.
-pub const HEADER: u32 = 2;
-
-/// The sector of the first content; the others follow it.
-pub const CONTENTS: u32 = 3;
+use shared_disk::{AT_HEAD, AT_MAP};
 
 /// The header of a transaction: the count of its homes, and the homes in four bytes each.
 pub fn header_with(homes: &[(u32, Sector)]) -> Sector
-    requires { length homes.now ≤ 16 }
+    requires { length homes.now ≤ transaction_homes }
     ensures { result ≡ header_of homes.now }
 {
     let mut fields = SectorFields::new();
@@ -24,7 +19,7 @@ pub fn header_with(homes: &[(u32, Sector)]) -> Sector
     for i in 0..homes.len() {
         fields.put_u32(homes[i].0);
     }
-    let mut header = [0; 4096];
+    let mut header = [0; BLOCK_SIZE];
     fields.finish(&mut header);
     header
 }
@@ -34,7 +29,10 @@ pub fn is_good(header: &Sector) -> bool
     ensures { result ≡ is_header header.now }
 {
     let count = header[0] as usize;
-    1 <= count && count <= 16 && homes_ascend(header, count) && is_blank(&header[1 + 4 * count..])
+    1 <= count
+        && count <= TRANSACTION_HOMES
+        && homes_ascend(header, count)
+        && is_blank(&header[1 + 4 * count..])
 }
 
 /// Whether all bytes are zero.
@@ -46,7 +44,7 @@ fn is_blank(bytes: &[u8]) -> bool
 
 /// Whether the homes of a header ascend, and each is one.
 fn homes_ascend(header: &Sector, count: usize) -> bool
-    requires few { count ≤ 16 }
+    requires few { count ≤ transaction_homes }
     requires count { count ≡ slice_index header.now 0 }
     ensures { result ≡ are_ascending 0 (homes_in header.now) }
 {
@@ -63,7 +61,7 @@ fn homes_ascend(header: &Sector, count: usize) -> bool
 
 /// The home at a place of a header.
 pub fn home_at(header: &Sector, place: usize) -> u32
-    requires { place < 16 }
+    requires { place < transaction_homes }
     ensures { result ≡ big_number 4 (drop (1 + 4 * place) header.now) }
 {
     let mut from = &header[1 + 4 * place..];
@@ -74,7 +72,7 @@ pub fn home_at(header: &Sector, place: usize) -> u32
 fn may_be_home(sector: u32) -> bool
     ensures { result ≡ is_home sector }
 {
-    sector == 0 || 19 <= sector && sector < SECTORS
+    sector == AT_HEAD || AT_MAP <= sector && sector < SECTORS
 }
 
 /// A header has one spelling. Transactions with the same header have the same homes, and a sector that

@@ -1,4 +1,5 @@
 use Rattle.std.specs.Prelude.{◌≡◌, ◌≢◌, ◌-◌, ◌++◌, ◌⊎◌, ℕ, max, List, [], ◌∷◌, length, replicate, slice_get, Option, Some, None, Result, Ok, Err}
+use Rattle.cal_base.specs.Limits as limits
 use Rattle.cal_base.specs.declared.failed.Failed.{Failed as Failure}
 use Rattle.cal_base.specs.declared.identity.View.{View}
 use Rattle.shared_disk.specs.declared.disk_refusal.DiskRefusal.{DiskRefusal}
@@ -40,11 +41,11 @@ pub record MeetsOther (disk : Disk) (view : ℕ) (mine current : View) : Type 0 
   pub current_is : current.0 ≡ disk.key
   pub other : disk.key ≢ view
 
--- a failed write under its own key: any 4,096 bytes are left in its sector
+-- a failed write under its own key: any bytes are left in its sector
 pub record LeavesAny (old : Disk) (view at : ℕ) (new : Disk) : Type 0 where
   pub own : old.key ≡ view
   pub left : List ℕ
-  pub whole : length left ≡ 4096
+  pub whole : length left ≡ limits.block_size
   pub changed : new ≡ after old ((at, left) ∷ [])
 
 -- what a read under this view answers, with these bytes in the buffer then
@@ -72,7 +73,7 @@ Fences old view (Err failed) new = (new ≡ old) ⊎ (new ≡ fenced old view)
 pub record IsBlank (disk : Disk) : Type 0 where
   pub key : disk.key ≡ 0
   pub changes : disk.changes ≡ []
-  pub sectors : disk.sectors ≡ Some (replicate 2596 (replicate 4096 0))
+  pub sectors : disk.sectors ≡ Some (replicate limits.sectors (replicate limits.block_size 0))
 
 -- a call under this view is refused since the key is another
 abbrev pub IsFencedOut : Disk → ℕ → DiskRefusal → Type 0

@@ -1,4 +1,5 @@
-use Rattle.std.specs.Prelude.{◌≡◌, ◌+◌, ◌-◌, ◌^◌, ℕ, min, List, [], ◌∷◌, Contains, Option, Some, None}
+use Rattle.std.specs.Prelude.{◌≡◌, ℕ, List, [], ◌∷◌, Contains, Option, Some, None}
+use Rattle.cal_base.specs.Faults.{counted_up}
 use Rattle.shared_disk.specs.Disk.{Disk, after}
 
 -- a disk with listed faults: the disk, the numbers of the calls that fail, what a failing write leaves in
@@ -17,7 +18,7 @@ pub record IsFault (disk : FaultyDisk) (view : ℕ) : Type 0 where
 
 -- one call more was counted, and what is to fail, and how, is as it was
 pub record CountsCall (old new : FaultyDisk) : Type 0 where
-  pub calls : new.calls ≡ min (old.calls + 1) (2 ^ 64 - 1)
+  pub calls : new.calls ≡ counted_up old.calls
   pub fails : new.fails ≡ old.fails
   pub left : new.left ≡ old.left
 

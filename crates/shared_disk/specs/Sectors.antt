@@ -1,9 +1,10 @@
 use Rattle.std.specs.Prelude.{◌≡◌, ℕ, zero, suc, List, [], ◌∷◌, length, All, slice_set, Option, Some, None}
+use Rattle.cal_base.specs.Limits as limits
 
--- a disk's sectors are 2,596, each of 4,096 bytes
+-- a disk's sectors: all of them, each with all its bytes
 pub record IsWhole (sectors : List (List ℕ)) : Type 0 where
-  pub count : length sectors ≡ 2596
-  pub bytes : All (λ sector. length sector ≡ 4096) sectors
+  pub count : length sectors ≡ limits.sectors
+  pub bytes : All (λ sector. length sector ≡ limits.block_size) sectors
 
 -- the sectors after these writes, in order: each puts its bytes into its sector and changes nothing else
 abbrev pub written : List (List ℕ) → List (ℕ × List ℕ) → List (List ℕ)

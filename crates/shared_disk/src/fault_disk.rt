@@ -1,4 +1,5 @@
 ghost use Rattle.std.specs.Prelude.{◌≡◌, ◌≤◌, ◌<◌, ◌↔◌, length, slice_get, Some, None, IfSome, IfNone, OnOk, OnErr, IfErr, IsErr, IsErrOf, IsTrue, Contains};
+ghost use Rattle.cal_base.specs.Limits as limits;
 ghost use Rattle.cal_base.specs.Faults.{Rose};
 ghost use Rattle.shared_disk.specs.Disk.{Reads, Writes, Fences, TellsWhole};
 ghost use Rattle.shared_disk.specs.Faulty.{CountsCall, CountsNothing, IsFault, Leaves};
@@ -23,13 +24,14 @@ pub struct FaultDisk {
 
 impl Model for FaultDisk {
     ghost use Rattle.std.specs.Prelude.{◌≡◌, length, IfSome};
+    ghost use Rattle.cal_base.specs.Limits as limits;
     ghost use Rattle.shared_disk.specs.Faulty.{FaultyDisk};
 
     ghost Value = { FaultyDisk };
 
     ghost view = { λ it. record { disk = it.disk; fails = it.fails.items; left = it.left; calls = it.calls; faults = it.faults } };
 
-    ghost invariant = { λ it. IfSome it.left (λ bytes. length bytes ≡ 4096) };
+    ghost invariant = { λ it. IfSome it.left (λ bytes. length bytes ≡ limits.block_size) };
 }
 
 impl FaultDisk {
@@ -81,10 +83,10 @@ impl FaultDisk {
 
     /// What a failing write leaves in a sector.
     fn leaves(&self, sector: u32) -> Sector
-        requires { sector < 2596 }
+        requires { sector < limits.sectors }
         ensures given { IfSome self.now.left (λ bytes. result ≡ bytes) }
         ensures kept { IfNone self.now.left (IfSome self.now.disk.sectors (λ sectors. slice_get sectors sector ≡ Some result)) }
-        ensures whole { length result ≡ 4096 }
+        ensures whole { length result ≡ limits.block_size }
     {
         match &self.left {
             Some(bytes) => *bytes,
@@ -111,7 +113,7 @@ impl PortDisk for FaultDisk {
     }
 
     fn read(&mut self, view: View, sector: u32, into: &mut Sector) -> Result<(), DiskRefusal>
-        requires { sector < 2596 }
+        requires { sector < limits.sectors }
         ensures reads { Reads self.old.disk view.0 sector into.new result }
         ensures same { self.new.disk ≡ self.old.disk }
         ensures whole { OnOk result (TellsWhole self.new.disk) }
@@ -131,7 +133,7 @@ impl PortDisk for FaultDisk {
     }
 
     fn write(&mut self, view: View, sector: u32, from: &Sector) -> Result<(), DiskRefusal>
-        requires within { sector < 2596 }
+        requires within { sector < limits.sectors }
         requires room { 0 < self.old.disk.room }
         ensures writes { Writes self.old.disk view.0 sector from.now result self.new.disk }
         ensures whole { OnOk result (TellsWhole self.new.disk) }

@@ -1,9 +1,10 @@
 ghost use Rattle.std.specs.Prelude.{◌≡◌, ◌<◌, length, slice_get, IfOk, IfSome, MatchResult};
+ghost use Rattle.cal_base.specs.Limits as limits;
 ghost use Rattle.shared_disk.specs.Disk.{IsBlank, IsFencedOut};
 
 use crate::disk_refusal::DiskRefusal;
 use crate::port_disk::PortDisk;
-use cal_base::{Failed, Oom, SECTORS, Sector, View};
+use cal_base::{BLOCK_SIZE, Failed, Oom, SECTORS, Sector, View};
 use std::alloc::Global;
 use std::marker::Model;
 
@@ -35,7 +36,7 @@ impl MemDisk {
     {
         let mut sectors = Vec::with_capacity(alloc, SECTORS as usize)?;
         for _i in 0..SECTORS {
-            sectors.push([0; 4096])?;
+            sectors.push([0; BLOCK_SIZE])?;
         }
         Ok(MemDisk {
             sectors,
@@ -46,9 +47,9 @@ impl MemDisk {
 
     /// The bytes of a sector.
     pub fn sector(&self, sector: u32) -> &Sector
-        requires { sector < 2596 }
+        requires { sector < limits.sectors }
         ensures bytes { IfSome self.now.sectors (λ sectors. slice_get sectors sector ≡ Some result.now) }
-        ensures whole { length result.now ≡ 4096 }
+        ensures whole { length result.now ≡ limits.block_size }
     {
         &self.sectors[sector as usize]
     }

@@ -1,4 +1,5 @@
 ghost use Rattle.std.specs.Prelude.{◌≡◌, ◌≤◌, ◌<◌, ℕ, OnOk, OnErr, IfErr};
+ghost use Rattle.cal_base.specs.Limits as limits;
 ghost use Rattle.cal_base.specs.Faults.{Rose};
 ghost use Rattle.shared_disk.specs.Disk.{Disk, Reads, Writes, Fences, TellsWhole};
 
@@ -27,7 +28,7 @@ pub trait PortDisk {
     /// Puts the bytes of a sector, below 2,596, into `into`. `Fenced` comes exactly where the key is
     /// another, `Failed` only where the count of faults rose; after them `into` holds any bytes.
     fn read(&mut self, view: View, sector: u32, into: &mut Sector) -> Result<(), DiskRefusal>
-        requires { sector < 2596 }
+        requires { sector < limits.sectors }
         ensures reads { Reads (means self.old) view.0 sector into.new result }
         ensures same { means self.new ≡ means self.old }
         ensures whole { OnOk result (TellsWhole (means self.new)) }
@@ -38,7 +39,7 @@ pub trait PortDisk {
     /// is some. `Fenced` comes exactly where the key is another, and then nothing changed. `Failed`
     /// comes only where the count of faults rose, and then any bytes are left in that one sector.
     fn write(&mut self, view: View, sector: u32, from: &Sector) -> Result<(), DiskRefusal>
-        requires within { sector < 2596 }
+        requires within { sector < limits.sectors }
         requires room { 0 < (means self.old).room }
         ensures writes { Writes (means self.old) view.0 sector from.now result (means self.new) }
         ensures whole { OnOk result (TellsWhole (means self.new)) }

@@ -1,5 +1,6 @@
 use Rattle.std.proofs.Common.{◌<◌, ◌++◌, ◌∷◌, [], arith}
 use Rattle.std.proofs.lemmas.List.Elements.{All-from_recursion}
+use Rattle.cal_base.specs.Limits as limits
 use Rattle.fence.proofs.RunsLemmas.{runs_then, runs_early, runs_passed}
 use Rattle.journal.specs.Layout.{header_of, contents_at, gate_of}
 use Rattle.journal.specs.Commit.{commit_writes}
@@ -26,7 +27,7 @@ returns-in_err-write_gate-clause-runs g c =
     c.from_residual-in_err-write_gate.ensures.1
 
 pub write_all-requires-clause-within : goal.write_all-requires-clause-within
-write_all-requires-clause-within g c = All-from_recursion (λ w. w.0 < 2596) c.args.homes.now (homes_below c.args.homes.now 0 c.requires.allowed.ascending)
+write_all-requires-clause-within g c = All-from_recursion (λ w. w.0 < limits.sectors) c.args.homes.now (homes_below c.args.homes.now 0 c.requires.allowed.ascending)
 
 pub write_all-requires-clause-room : goal.write_all-requires-clause-room
 write_all-requires-clause-room g c =

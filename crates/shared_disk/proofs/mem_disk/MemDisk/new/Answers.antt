@@ -1,5 +1,6 @@
 use Rattle.std.proofs.Common.{◌≡◌, ℕ, ◌+◌, List, [], ◌∷◌, ◌++◌, refl, ap, sym, ◌∙◌, Some, arith, replicate}
 use Rattle.std.proofs.lemmas.Grind.{replicate_next}
+use Rattle.cal_base.specs.Limits as limits
 use Rattle.shared_disk.proofs.mem_disk.MemDisk.new.Goals as goal
 
 -- one sector more
@@ -14,4 +15,4 @@ told : (n m : ℕ) (s : List ℕ) (xs : List (List ℕ)) → n ≡ m → xs ≡ 
 told n m s xs e h = ap Some (h ∙ ap (λ (k : ℕ). replicate k s) e)
 
 pub returns : goal.returns
-returns c = record { key = refl; changes = c.new.ensures.items; sectors = told c.loop-i._i 2596 _ _ (omega arith) c.loop-i.invariant }
+returns c = record { key = refl; changes = c.new.ensures.items; sectors = told c.loop-i._i limits.sectors _ _ (omega arith) c.loop-i.invariant }

@@ -2,6 +2,7 @@ use Rattle.std.proofs.Common.{◌≡◌, ◌+◌, ◌*◌, ◌<◌, ◌≤◌, �
 use Rattle.std.specs.List.{flat_map, slice_set}
 use Rattle.std.proofs.lemmas.Grind.{flat_map-append}
 use Rattle.std.proofs.lemmas.List.{nil_from_length, take_all, take_more, take_more_set}
+use Rattle.cal_base.specs.Limits.{block_size, file_blocks, file_size}
 use Rattle.cal_fields.specs.BigEndian.{big_endian}
 use Rattle.cal_fields.proofs.BigEndianLemmas.{big_endian-cancel, length-big_endian}
 use Rattle.cal_fields.proofs.PaddedLemmas.{padded-cancel}
@@ -9,7 +10,7 @@ use Rattle.inode.specs.declared.inode.Inode.{Inode}
 use Rattle.inode.specs.declared.inode.Kind.{Kind}
 use Rattle.inode.specs.declared.inode.Kind.TheVariants.{Free, File, Dir}
 use Rattle.cal_fields.specs.Flag.{bool_byte}
-use Rattle.inode.specs.Inode.{IsInRange, IsInode, KindAllows, SpellsInode, inode_fields, kind_byte, pointer_bytes}
+use Rattle.inode.specs.Inode.{IsInRange, IsInode, KindAllows, SpellsInode, fields_size, inode_fields, kind_byte, pointer_bytes}
 
 -- the bytes of one pointer more
 pub pointer_bytes-append : (xs : List ℕ) (x : ℕ) → pointer_bytes (xs ++ x ∷ []) ≡ pointer_bytes xs ++ big_endian 2 x
@@ -73,7 +74,7 @@ same_fields a b fa fb e =
     made a b (kind_byte-cancel a.kind b.kind kinds) (bool_byte-cancel a.named b.named names) split.0
     (pointer_bytes-cancel a.blocks b.blocks (fa.count ∙ sym fb.count) fa.pointers fb.pointers split.1)
 
-kind_size : (k : Kind) (i : Inode) → KindAllows k i → i.size ≤ 262144
+kind_size : (k : Kind) (i : Inode) → KindAllows k i → i.size ≤ file_size
 kind_size Free i h = (let s = h.size in omega arith)
 kind_size File i h = h.size
 kind_size Dir i h = (let s = h.size in omega arith)
@@ -86,8 +87,8 @@ in_range i h = record {
   pointers = λ place. (let p = h.pointers place in omega arith);
 }
 
--- the fields of an inode are 134 bytes
-pub length-inode_fields : (i : Inode) → length i.blocks ≡ 64 → length (inode_fields i) ≡ 134
+-- the fields of an inode are so many bytes
+pub length-inode_fields : (i : Inode) → length i.blocks ≡ file_blocks → length (inode_fields i) ≡ fields_size
 length-inode_fields i h =
     omega (arith, length-append (big_endian 4 i.size) (pointer_bytes i.blocks), length-big_endian 4 i.size, length-pointer_bytes i.blocks)
 
@@ -95,7 +96,7 @@ length-inode_fields i h =
 pub same_inode : (sector : List ℕ) (a b : Inode) → SpellsInode sector a → SpellsInode sector b → a ≡ b
 same_inode sector a b s t =
     let lengths : length (inode_fields a) ≡ length (inode_fields b) = length-inode_fields a s.inode.count ∙ sym (length-inode_fields b t.inode.count) in
-    same_fields a b (in_range a s.inode) (in_range b t.inode) (padded-cancel 4096 (inode_fields a) (inode_fields b) lengths (sym s.whole ∙ t.whole))
+    same_fields a b (in_range a s.inode) (in_range b t.inode) (padded-cancel block_size (inode_fields a) (inode_fields b) lengths (sym s.whole ∙ t.whole))
 
 -- zeros are small
 pub small_zeros : (count place : ℕ) → get_or (replicate {A = ℕ} count 0) place 0 ≡ 0

@@ -1,5 +1,6 @@
-use Rattle.std.specs.Prelude.{◌≡◌, ◌≢◌, ◌≤◌, ◌<◌, ◌/◌, ◌%◌, ◌^◌, ◌++◌, ◌∷◌, [], ℕ, Bool, true, false, List, length, slice_index}
+use Rattle.std.specs.Prelude.{◌≡◌, ◌≢◌, ◌≤◌, ◌<◌, ◌/◌, ◌%◌, ◌^◌, ◌++◌, ◌∷◌, [], ℕ, true, false, List, length, slice_index}
 use Rattle.std.specs.List.{flat_map}
+use Rattle.cal_base.specs.Limits as limits
 use Rattle.cal_base.specs.Blocks.{block_count}
 use Rattle.cal_fields.specs.BigEndian.{big_endian}
 use Rattle.cal_fields.specs.Flag.{bool_byte}
@@ -21,14 +22,18 @@ pointer_bytes pointers = flat_map (big_endian 2) pointers
 abbrev pub inode_fields : Inode → List ℕ
 inode_fields i = (((kind_byte i.kind ∷ []) ++ bool_byte i.named ∷ []) ++ big_endian 4 i.size) ++ pointer_bytes i.blocks
 
--- each pointer is 0, a hole, or one of the 2,048 data blocks, from 1
-abbrev pub AreSmall : List ℕ → Type 0
-AreSmall pointers = (place : ℕ) → slice_index pointers place ≤ 2048
+-- bytes of the fields of an inode
+abbrev pub fields_size : ℕ
+fields_size = 134
 
--- an inode whose size fits four bytes, with 64 pointers that each fit two
+-- each pointer is 0, a hole, or one of the data blocks, from 1
+abbrev pub AreSmall : List ℕ → Type 0
+AreSmall pointers = (place : ℕ) → slice_index pointers place ≤ limits.blocks
+
+-- an inode whose size fits four bytes, with all its pointers, of which each fits two
 pub record IsInRange (i : Inode) : Type 0 where
   pub size : i.size < 2 ^ 32
-  pub count : length i.blocks ≡ 64
+  pub count : length i.blocks ≡ limits.file_blocks
   pub pointers : (place : ℕ) → slice_index i.blocks place < 2 ^ 16
 
 -- all pointers from a place on are holes
@@ -45,18 +50,18 @@ pub record IsFreeInode (i : Inode) : Type 0 where
   pub size : i.size ≡ 0
   pub holes : AreHolesFrom 0 i.blocks
 
--- a file has at most 64 blocks, and no pointer past its size
+-- a file is no greater than it may be, and has no pointer past its size
 pub record IsFileInode (i : Inode) : Type 0 where
-  pub size : i.size ≤ 262144
+  pub size : i.size ≤ limits.file_size
   pub holes : AreHolesFrom (block_count i.size) i.blocks
 
--- a directory is named, has whole blocks, at most eight, and a pointer for each of them alone
+-- a directory is named, has whole blocks, no more than it may have, and a pointer for each of them alone
 pub record IsDirInode (i : Inode) : Type 0 where
   pub named : i.named ≡ true
-  pub whole : i.size % 4096 ≡ 0
-  pub size : i.size ≤ 32768
-  pub blocks : AreBlocksBefore (i.size / 4096) i.blocks
-  pub holes : AreHolesFrom (i.size / 4096) i.blocks
+  pub whole : i.size % limits.block_size ≡ 0
+  pub size : i.size ≤ limits.directory_size
+  pub blocks : AreBlocksBefore (i.size / limits.block_size) i.blocks
+  pub holes : AreHolesFrom (i.size / limits.block_size) i.blocks
 
 abbrev pub KindAllows : Kind → Inode → Type 0
 KindAllows Free i = IsFreeInode i
@@ -65,11 +70,11 @@ KindAllows Dir i = IsDirInode i
 
 -- what an inode may be
 pub record IsInode (i : Inode) : Type 0 where
-  pub count : length i.blocks ≡ 64
+  pub count : length i.blocks ≡ limits.file_blocks
   pub pointers : AreSmall i.blocks
   pub allowed : KindAllows i.kind i
 
 -- A sector spells an inode: its fields, and zeros behind them.
 pub record SpellsInode (sector : List ℕ) (i : Inode) : Type 0 where
   pub inode : IsInode i
-  pub whole : sector ≡ padded 4096 (inode_fields i)
+  pub whole : sector ≡ padded limits.block_size (inode_fields i)

@@ -3,6 +3,7 @@ ghost use Rattle.cal_base.specs.Blocks.{block_count};
 ghost use Rattle.inode.specs.Inode.{AreBlocksBefore, AreHolesFrom, AreSmall, IsDirInode, IsFileInode, IsFreeInode, IsInode};
 
 use crate::inode::{Inode, Kind};
+use cal_base::{BLOCK_SIZE, BLOCKS, DIRECTORY_SIZE, FILE_SIZE};
 
 /// Whether the fields are those of an inode.
 pub(crate) fn is_inode(inode: &Inode) -> bool
@@ -27,16 +28,20 @@ fn is_free_inode(inode: &Inode) -> bool
 fn is_file_inode(inode: &Inode) -> bool
     ensures { IsTrue result ↔ IsFileInode inode.now }
 {
-    inode.size <= 262_144 && are_holes_from(&inode.blocks, (inode.size as usize + 4095) / 4096)
+    inode.size as u64 <= FILE_SIZE
+        && are_holes_from(
+            &inode.blocks,
+            (inode.size as usize + BLOCK_SIZE - 1) / BLOCK_SIZE,
+        )
 }
 
 fn is_dir_inode(inode: &Inode) -> bool
     ensures { IsTrue result ↔ IsDirInode inode.now }
 {
-    let count = inode.size as usize / 4096;
+    let count = inode.size as usize / BLOCK_SIZE;
     inode.named
-        && inode.size % 4096 == 0
-        && inode.size <= 32_768
+        && inode.size as usize % BLOCK_SIZE == 0
+        && inode.size <= DIRECTORY_SIZE
         && are_blocks_before(&inode.blocks, count)
         && are_holes_from(&inode.blocks, count)
 }
@@ -46,7 +51,7 @@ fn are_small(pointers: &[u16]) -> bool
     ensures { IsTrue result ↔ AreSmall pointers.now }
 {
     for pointer in pointers {
-        if *pointer > 2_048 {
+        if *pointer as usize > BLOCKS {
             return false;
         }
     }

@@ -1,12 +1,16 @@
 ghost use Rattle.std.specs.Prelude.{◌≡◌, ◌≢◌, ◌↔◌, ◌≤◌, ◌<◌, ◌+◌, ◌*◌, ◌^◌, ◌++◌, ℕ, List, Ok, length, slice_index, IsTrue, IsErr, IfOk, OnErr};
+ghost use Rattle.cal_base.specs.Limits.{file_blocks};
 ghost use Rattle.inode.specs.declared.inode.Inode.{Inode};
 ghost use Rattle.cal_fields.specs.Flag.{bool_byte};
-ghost use Rattle.inode.specs.Inode.{IsInRange, SpellsInode, inode_fields, kind_byte, pointer_bytes};
+ghost use Rattle.inode.specs.Inode.{IsInRange, SpellsInode, fields_size, inode_fields, kind_byte, pointer_bytes};
 
 use crate::check::is_inode;
 use crate::inode::{Inode, Kind};
-use cal_base::Sector;
+use cal_base::{FILE_BLOCKS, Sector};
 use cal_fields::{padded_front, take_u8, take_u16, take_u32};
+
+/// Bytes of the fields of an inode.
+const FIELDS_SIZE: usize = 134;
 
 /// A sector spells no inode.
 #[derive(Clone, Copy, Debug, PartialEq, Eq)]
@@ -17,7 +21,7 @@ pub fn read_inode(from: &Sector) -> Result<Inode, BadInode>
     ensures found { IfOk result (λ inode. SpellsInode from.now inode) }
     ensures again { (inode : Inode) → SpellsInode from.now inode → result ≡ Ok inode }
 {
-    let Some(front) = padded_front(from, 134) else {
+    let Some(front) = padded_front(from, FIELDS_SIZE) else {
         return Err(BadInode);
     };
     let inode = fields_of(front)?;
@@ -27,9 +31,9 @@ pub fn read_inode(from: &Sector) -> Result<Inode, BadInode>
     Ok(inode)
 }
 
-/// The fields that 134 bytes spell.
+/// The fields that these bytes spell.
 fn fields_of(front: &[u8]) -> Result<Inode, BadInode>
-    requires { length front.now ≡ 134 }
+    requires { length front.now ≡ fields_size }
     ensures found { IfOk result (λ inode. front.now ≡ inode_fields inode) }
     ensures in_range { IfOk result IsInRange }
     ensures bad { OnErr result ((inode : Inode) → front.now ≢ inode_fields inode) }
@@ -72,15 +76,15 @@ fn bool_of(byte: u8) -> Result<bool, BadInode>
     }
 }
 
-/// The pointers that 128 bytes spell.
-fn pointers_of(bytes: &[u8]) -> [u16; 64]
-    requires { length bytes.now ≡ 128 }
+/// The pointers that these bytes spell.
+fn pointers_of(bytes: &[u8]) -> [u16; FILE_BLOCKS]
+    requires { length bytes.now ≡ 2 * file_blocks }
     ensures read { bytes.now ≡ pointer_bytes result }
     ensures in_range { (place : ℕ) → slice_index result place < 2 ^ 16 }
 {
-    let mut pointers = [0; 64];
+    let mut pointers = [0; FILE_BLOCKS];
     let mut rest = bytes;
-    for place in 0..64usize {
+    for place in 0..FILE_BLOCKS {
         pointers[place] = take_u16(&mut rest).unwrap();
     }
     pointers

@@ -1,4 +1,5 @@
 ghost use Rattle.std.specs.Prelude.{◌≡◌, ◌++◌, ◌≤◌, ◌+◌, ◌*◌, length};
+ghost use Rattle.cal_base.specs.Limits.{block_size};
 ghost use Rattle.cal_fields.specs.Padded.{padded};
 ghost use Rattle.cal_fields.specs.Flag.{bool_byte};
 ghost use Rattle.inode.specs.Inode.{IsInode, SpellsInode, inode_fields, kind_byte, pointer_bytes};
@@ -32,7 +33,7 @@ fn byte_of_kind(kind: Kind) -> u8
 
 /// Puts pointers, two bytes each.
 fn put_pointers(fields: &mut SectorFields, pointers: &[u16])
-    requires { length fields.old + 2 * length pointers.now ≤ 4096 }
+    requires { length fields.old + 2 * length pointers.now ≤ block_size }
     ensures { fields.new ≡ fields.old ++ pointer_bytes pointers.now }
 {
     for pointer in pointers {

@@ -9,6 +9,7 @@ use Rattle.std.proofs.lemmas.List.Sums.{sum_by-append}
 use Rattle.std.specs.Int.RustNames.{count_ones}
 use Rattle.std.specs.List.{flat_map, position}
 use Rattle.std.proofs.lemmas.Option.{get_or_from_slice_get, slice_get_within}
+use Rattle.cal_base.specs.Limits.{block_size, map_size}
 use Rattle.byteorder.specs.Endian.{little_from, little_number}
 use Rattle.byteorder.specs.Numbers.{little_from-lt}
 use Rattle.cal_fields.specs.Padded.{padded, zeros}
@@ -160,10 +161,10 @@ free_blocks-cancel (x ∷ a) (y ∷ b) same fa fb e =
     cc
 
 -- bytes padded are bytes
-front_fits : (front sector : List ℕ) → sector ≡ padded 4096 front → ((i : ℕ) → slice_index sector i < 256) → (i : ℕ) → i < length front → slice_index front i < 256
+front_fits : (front sector : List ℕ) → sector ≡ padded block_size front → ((i : ℕ) → slice_index sector i < 256) → (i : ℕ) → i < length front → slice_index front i < 256
 unfolding padded
 front_fits front sector e fits i h =
-    let here : slice_index sector i ≡ slice_index front i = ap (λ (xs : List ℕ). slice_index xs i) e ∙ get_or_append_left front (zeros (4096 - length front)) 0 i h in
+    let here : slice_index sector i ≡ slice_index front i = ap (λ (xs : List ℕ). slice_index xs i) e ∙ get_or_append_left front (zeros (block_size - length front)) 0 i h in
     let f = fits i in omega arith
 
 -- sectors that spell the same blocks are the same
@@ -173,7 +174,7 @@ same_sectors a b free fa fb s t =
     let lengths : length s.bytes ≡ length t.bytes = s.count ∙ sym t.count in
     let blocks : free_blocks s.bytes ≡ free_blocks t.bytes = sym s.blocks ∙ t.blocks in
     let same = free_blocks-cancel s.bytes t.bytes lengths (front_fits s.bytes a s.whole fa) (front_fits t.bytes b t.whole fb) blocks in
-    s.whole ∙ ap (padded 4096) same ∙ sym t.whole
+    s.whole ∙ ap (padded block_size) same ∙ sym t.whole
 
 -- there are eight blocks a byte
 pub length-free_blocks : (bytes : List ℕ) → length (free_blocks bytes) ≡ 8 * length bytes
@@ -203,8 +204,8 @@ least_is_first free block least =
     (λ below low. get_or_from_slice_get free below false false (least.least below low))
 
 -- where no block is free, none is the first
-pub none_is_first : (bytes : List ℕ) → length bytes ≡ 256 → AreFull bytes 256 → position (λ free. free) (free_blocks bytes) ≡ None
+pub none_is_first : (bytes : List ℕ) → length bytes ≡ map_size → AreFull bytes map_size → position (λ free. free) (free_blocks bytes) ≡ None
 none_is_first bytes size full =
     let count = length-free_blocks bytes in
     position_none (λ (b : Bool). b) (free_blocks bytes) false
-    (λ place low. get_or_from_slice_get (free_blocks bytes) place false false (none_free bytes 256 place full (omega arith) (omega arith)))
+    (λ place low. get_or_from_slice_get (free_blocks bytes) place false false (none_free bytes map_size place full (omega arith) (omega arith)))

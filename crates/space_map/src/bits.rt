@@ -1,19 +1,24 @@
 ghost use Rattle.std.specs.Prelude.{◌≡◌, ◌≢◌, ◌≤◌, ◌<◌, ◌+◌, ◌*◌, ◌^◌, ℕ, Bool, true, false, Some, List, length, slice_get, slice_set, slice_index, IsTrue, ◌↔◌, count_by};
-ghost use Rattle.space_map.specs.SpaceMap.{AreFull, IsLeastFree, free_bits, free_blocks};
+ghost use Rattle.cal_base.specs.Limits.{map_size};
+ghost use Rattle.space_map.specs.SpaceMap.{AreFull, IsLeastFree, free_bits, free_blocks, map_words};
 
 use byteorder::{ByteOrder, LittleEndian};
+use cal_base::MAP_SIZE;
 
-/// The first word of eight bytes, from the hint on, in which a block is free; 32 where there is none.
+/// Words of eight bytes in the map.
+const MAP_WORDS: usize = 32;
+
+/// The first word of eight bytes, from the hint on, in which a block is free; past the last word where there is none.
 pub(crate) fn first_open_word(bytes: &[u8], hint: usize) -> usize
-    requires size { length bytes.now ≡ 256 }
-    requires within { hint ≤ 32 }
+    requires size { length bytes.now ≡ map_size }
+    requires within { hint ≤ map_words }
     requires full { AreFull bytes.now (8 * hint) }
-    ensures within { result ≤ 32 }
+    ensures within { result ≤ map_words }
     ensures later { hint ≤ result }
     ensures full { AreFull bytes.now (8 * result) }
 {
     let mut word = hint;
-    while word < 32 {
+    while word < MAP_WORDS {
         if LittleEndian::read_u64(&bytes[8 * word..]) != u64::MAX {
             return word;
         }
@@ -22,18 +27,18 @@ pub(crate) fn first_open_word(bytes: &[u8], hint: usize) -> usize
     word
 }
 
-/// The first byte, from `from` on, in which a block is free; 256 where there is none.
+/// The first byte, from `from` on, in which a block is free; past the last byte where there is none.
 pub(crate) fn first_open_byte(bytes: &[u8], from: usize) -> usize
-    requires size { length bytes.now ≡ 256 }
-    requires within { from ≤ 256 }
+    requires size { length bytes.now ≡ map_size }
+    requires within { from ≤ map_size }
     requires full { AreFull bytes.now from }
-    ensures within { result ≤ 256 }
+    ensures within { result ≤ map_size }
     ensures later { from ≤ result }
     ensures full { AreFull bytes.now result }
-    ensures open { result < 256 → slice_index bytes.now result ≢ 255 }
+    ensures open { result < map_size → slice_index bytes.now result ≢ 255 }
 {
     let mut at = from;
-    while at < 256 {
+    while at < MAP_SIZE {
         if bytes[at] != 255 {
             return at;
         }
@@ -54,7 +59,7 @@ fn lowest_free(byte: u8) -> usize
 /// The least free block of the first byte in which one is free.
 pub(crate) fn least_block(bytes: &[u8], at: usize) -> usize
     requires within { at < length bytes.now }
-    requires few { length bytes.now ≤ 256 }
+    requires few { length bytes.now ≤ map_size }
     requires full { AreFull bytes.now at }
     requires open { slice_index bytes.now at ≢ 255 }
     ensures within { result < 8 * length bytes.now }
@@ -82,7 +87,7 @@ fn with_free(byte: u8, bit: usize) -> u8
 /// Takes the least free block of the first byte in which one is free.
 pub(crate) fn take_block(bytes: &mut [u8], at: usize) -> usize
     requires within { at < length bytes.old }
-    requires few { length bytes.old ≤ 256 }
+    requires few { length bytes.old ≤ map_size }
     requires full { AreFull bytes.old at }
     requires open { slice_index bytes.old at ≢ 255 }
     ensures within { result < 8 * length bytes.old }
@@ -118,7 +123,7 @@ pub(crate) fn use_block(bytes: &mut [u8], block: usize)
 
 /// How many blocks are free.
 pub(crate) fn count_free(bytes: &[u8]) -> u16
-    requires { length bytes.now ≤ 256 }
+    requires { length bytes.now ≤ map_size }
     ensures { result ≡ count_by (λ free. free) (free_blocks bytes.now) }
 {
     let mut count: u16 = 0;

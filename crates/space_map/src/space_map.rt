@@ -1,11 +1,12 @@
 ghost use Rattle.std.specs.Prelude.{◌≡◌, ◌<◌, ℕ, Bool, true, false, Some, List, count_by, length, replicate, slice_get, slice_set, IfSome, IfNone, IfOk, IsOkAnd};
 ghost use Rattle.std.specs.List.{position};
+ghost use Rattle.cal_base.specs.Limits as limits;
 ghost use Rattle.space_map.specs.SpaceMap.{IsLeastFree, SpellsMap};
 
 use crate::bits::{
     count_free, first_open_byte, first_open_word, give_block, least_block, take_block, use_block,
 };
-use cal_base::Sector;
+use cal_base::{MAP_SIZE, Sector};
 use cal_fields::{SectorFields, padded_front};
 use std::marker::Model;
 
@@ -16,7 +17,7 @@ pub struct BadMap;
 /// Which data blocks are free. Contracts see for each of the 2,048 blocks whether it is.
 #[derive(Debug, Drop)]
 pub struct SpaceMap {
-    bytes: [u8; 256],
+    bytes: [u8; MAP_SIZE],
     /// No block is free below this word of eight bytes.
     hint: usize,
 }
@@ -35,10 +36,10 @@ impl Model for SpaceMap {
 impl SpaceMap {
     /// The map where all blocks are free.
     pub fn new() -> SpaceMap
-        ensures { result ≡ replicate 2048 true }
+        ensures { result ≡ replicate limits.blocks true }
     {
         SpaceMap {
-            bytes: [0; 256],
+            bytes: [0; MAP_SIZE],
             hint: 0,
         }
     }
@@ -60,10 +61,10 @@ impl SpaceMap {
         ensures found { IfOk result (λ map. SpellsMap sector.now map) }
         ensures again { (free : List Bool) → SpellsMap sector.now free → IsOkAnd result (λ map. map ≡ free) }
     {
-        let Some(front) = padded_front(sector, 256) else {
+        let Some(front) = padded_front(sector, MAP_SIZE) else {
             return Err(BadMap);
         };
-        let mut bytes = [0; 256];
+        let mut bytes = [0; MAP_SIZE];
         bytes.copy_from_slice(front);
         Ok(SpaceMap { bytes, hint: 0 })
     }
@@ -80,7 +81,7 @@ impl SpaceMap {
     /// How many of the 2,048 blocks are free.
     pub fn free(&self) -> u16
         ensures free { result ≡ count_by (λ free. free) self.now }
-        ensures blocks { length self.now ≡ 2048 }
+        ensures blocks { length self.now ≡ limits.blocks }
     {
         count_free(&self.bytes)
     }
@@ -91,7 +92,7 @@ impl SpaceMap {
     {
         let hint = first_open_word(&self.bytes, self.hint);
         let at = first_open_byte(&self.bytes, 8 * hint);
-        if at == 256 {
+        if at == MAP_SIZE {
             return None;
         }
         Some(least_block(&self.bytes, at) as u16)
@@ -101,13 +102,13 @@ impl SpaceMap {
     pub fn take_least(&mut self) -> Option<u16>
         ensures least { IfSome result (λ block. IsLeastFree self.old block) }
         ensures taken { IfSome result (λ block. self.new ≡ slice_set self.old block false) }
-        ensures none { IfNone result ((block : ℕ) → block < 2048 → slice_get self.old block ≡ Some false) }
+        ensures none { IfNone result ((block : ℕ) → block < limits.blocks → slice_get self.old block ≡ Some false) }
         ensures unchanged { IfNone result (self.new ≡ self.old) }
     {
         let hint = first_open_word(&self.bytes, self.hint);
         self.hint = hint;
         let at = first_open_byte(&self.bytes, 8 * hint);
-        if at == 256 {
+        if at == MAP_SIZE {
             return None;
         }
         Some(take_block(&mut self.bytes, at) as u16)
@@ -115,7 +116,7 @@ impl SpaceMap {
 
     /// Frees a block, which is below 2,048.
     pub fn give(&mut self, block: u16)
-        requires { block < 2048 }
+        requires { block < limits.blocks }
         ensures { self.new ≡ slice_set self.old block true }
     {
         give_block(&mut self.bytes, block as usize);
@@ -124,7 +125,7 @@ impl SpaceMap {
 
     /// Takes a block, which is below 2,048.
     pub fn take(&mut self, block: u16)
-        requires { block < 2048 }
+        requires { block < limits.blocks }
         ensures { self.new ≡ slice_set self.old block false }
     {
         use_block(&mut self.bytes, block as usize);

@@ -1,5 +1,6 @@
 use Rattle.std.proofs.Common.{refl, arith, length, length-append, ap, ◌∙◌}
 use Rattle.std.proofs.lemmas.List.{length-set}
+use Rattle.cal_base.specs.Limits.{file_blocks}
 use Rattle.cal_fields.specs.BigEndian.{big_endian}
 use Rattle.cal_fields.proofs.BigEndianLemmas.{length-big_endian}
 use Rattle.inode.specs.Inode.{pointer_bytes}
@@ -8,7 +9,7 @@ use Rattle.inode.proofs.read.pointers_of.Goals as goal
 
 pub loop-place-init : goal.loop-place-init
 unfolding pointer_bytes
-loop-place-init c = record { read = refl; left = omega (arith, c.requires); size = refl; small = λ place. omega (arith, small_zeros 64 place) }
+loop-place-init c = record { read = refl; left = omega (arith, c.requires); size = refl; small = λ place. omega (arith, small_zeros file_blocks place) }
 
 pub loop-place-preserved : goal.loop-place-preserved
 loop-place-preserved c =

@@ -4,9 +4,9 @@ use Rattle.space_map.specs.SpaceMap.{IsLeastFree}
 use Rattle.space_map.proofs.FreeBlocks.{least_is_first, none_is_first}
 use Rattle.space_map.proofs.space_map.SpaceMap.least.Goals as goal
 
-pub returns-then-at-eq256 : goal.returns-then-at-eq256
-returns-then-at-eq256 c =
-    let full = rw c.if-at-eq256.true at c.first_open_byte-at.ensures.full in
+pub returns-then-at-eq-MAP_SIZE : goal.returns-then-at-eq-MAP_SIZE
+returns-then-at-eq-MAP_SIZE c =
+    let full = rw c.if-at-eq-MAP_SIZE.true at c.first_open_byte-at.ensures.full in
     sym (ap (λ (free : List Bool). position (λ (b : Bool). b) free) (sym c.self.view_is) ∙ none_is_first c.self.inside.bytes (omega arith) full)
 
 pub returns : goal.returns

@@ -10,7 +10,7 @@ use Rattle.token_kind.specs.declared.reported.Reported.{Reported}
 use Rattle.token_kind.specs.declared.token.Token.{Token}
 use Rattle.token_table.specs.Changes.{Sets, Drops}
 use Rattle.token_table.specs.Series.{Same, with_holds, with_lowered, put_last}
-use Rattle.token_table.specs.Table.{IsGrantable, IsToken, may_hold, held_of}
+use Rattle.token_table.specs.Table.{IsGrantable, held_of}
 use Rattle.rebuild.specs.Collecting.{Collecting, standing_of, with_standing}
 use Rattle.rebuild.specs.declared.reporting.Reporting.{Reporting}
 use Rattle.rebuild.specs.declared.reporting.Reporting.TheVariants.{Asked, Whole, Purged}
@@ -22,11 +22,6 @@ judged_hold r flushed = if nat_lt 0 r.flush && nat_le r.flush flushed then r.lea
 -- the token that a reported hold counts as
 abbrev pub judged : ℕ → Reported → Token
 judged flushed r = record r.token { hold = judged_hold r flushed }
-
--- what a reported hold is: its class can be held so, and as its flush leaves it
-pub record IsReported (r : Reported) : Type 0 where
-  pub hold : IsToken r.token
-  pub leave : may_hold r.token.«class» r.leave ≡ true
 
 -- a piece fits: its client was asked, it is the next of that report, and none of its holds conflicts with one that another client reported
 pub record Fits (s : Collecting) (c : ClientId) (p : Piece) (flushed : ℕ) : Type 0 where

@@ -2,10 +2,10 @@ ghost use Rattle.std.specs.Prelude.{◌≡◌, ◌<◌, ◌↔◌, IsTrue, IfOk,
 ghost use Rattle.std.specs.Option.{option_map};
 ghost use Rattle.token_table.specs.Table.{IsGrantable};
 ghost use Rattle.token_table.specs.Series.{Same, with_lowered};
-ghost use Rattle.token_table.specs.Table.{IsToken};
+ghost use Rattle.token_kind.specs.Token.{HasModes, IsToken};
 ghost use Rattle.token_table.specs.Series.{with_holds};
 ghost use Rattle.rebuild.specs.Collecting.{none_listed, standing_of, is_asked, is_to_ask, first_to_ask, listing, next_of, asking, missing_of, is_missing, client, phase_by, phase_of};
-ghost use Rattle.rebuild.specs.Reports.{judged, IsReported, Fits, after_piece, Takes, Releases, Lowers, Grants, Purges};
+ghost use Rattle.rebuild.specs.Reports.{judged, Fits, after_piece, Takes, Releases, Lowers, Grants, Purges};
 ghost use Rattle.rebuild.specs.declared.reporting.Reporting.TheVariants.{Asked};
 
 use crate::judged::{judged, judged_all};
@@ -90,7 +90,7 @@ impl Collect {
         requires client { c.0 < CLIENTS }
         requires fits { Fits self.old c p.now slot.now.flush }
         requires inodes { All (λ r. r.token.ino.0 < INODES) p.now.holds }
-        requires modes { All IsReported p.now.holds }
+        requires modes { All HasModes p.now.holds }
         ensures whole { IfOk result (λ whole. whole ≡ p.now.last) }
         ensures ok { OnOk result (Takes self.old self.new c p.now slot.now.flush) }
         ensures err { OnErr result (self.new ≡ self.old) }

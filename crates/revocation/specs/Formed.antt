@@ -22,3 +22,7 @@ pub record AreAskable (blockers : List Blocker) : Type 0 where
 -- what a client may need: Names of directories, and Data, Attr and Open of files, where each inode is a directory or a file
 abbrev pub AreNeeds : (Ino → Bool) → List Token → Type 0
 AreNeeds is_directory needs = (need : Token) → Contains needs need → is_of_directory need.«class» ≡ is_directory need.ino
+
+-- what a change may touch: Names of directories, and Data, Attr and Open of files, where each inode is a directory or a file
+abbrev pub AreTouches : (Ino → Bool) → List (Ino × Class) → Type 0
+AreTouches is_directory touches = (touch : Ino × Class) → Contains touches touch → is_of_directory touch.1 ≡ is_directory touch.0

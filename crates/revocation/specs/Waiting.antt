@@ -1,6 +1,7 @@
 use Rattle.std.specs.Prelude.{◌≡◌, ◌<◌, ◌≤◌, true, false, All, List, ◌∷◌, [], ◌++◌, Bool, ◌&&◌, not, nat_eq, nat_le, filter, Option, Some, None, if◌then◌else◌}
 use Rattle.std.specs.List.{list_any, filter_map, IsDistinct}
 use Rattle.std.specs.Map.{lookup}
+use Rattle.cal_base.specs.Limits.{clients, inodes}
 use Rattle.cal_base.specs.declared.identity.ClientId.{ClientId}
 use Rattle.token_kind.specs.Hold.{hold_number}
 use Rattle.token_kind.specs.declared.hold.Hold.{Hold}
@@ -9,8 +10,7 @@ use Rattle.token_table.specs.declared.hold_key.HoldKey.{HoldKey}
 use Rattle.token_kind.specs.declared.blocker.Blocker.{Blocker}
 use Rattle.token_kind.specs.declared.token.Token.{Token}
 use Rattle.token_table.specs.Table.{key_of}
-use Rattle.tree_law.specs.declared.call.Call.{Call}
-use Rattle.tree_law.specs.declared.call.Call.TheVariants.{Create, Mkdir, Unlink, Rmdir, Rename, Open as OpenCall, Close, Read as ReadCall, Write as WriteCall, Truncate, Stat as StatCall, Readdir as ReaddirCall, Fsync}
+use Rattle.tree_law.specs.Change.{is_change}
 use Rattle.tree_law.specs.declared.request.Asked.{Asked}
 use Rattle.tree_law.specs.declared.request.Asked.TheVariants.{Want as Wants, Change}
 use Rattle.tree_law.specs.declared.request.Request.{Request}
@@ -31,33 +31,17 @@ abbrev pub IsWant : Want → Type 0
 IsWant (Stat path) = Unit {0}
 IsWant (Open path) = Unit {0}
 IsWant (Readdir path) = Unit {0}
-IsWant (Read ino) = ino.0 < 512
-IsWant (Write ino) = ino.0 < 512
-
--- a call changes names, which a server alone does
-abbrev pub changes_names : Call → Bool
-changes_names (Create path) = true
-changes_names (Mkdir path) = true
-changes_names (Unlink path) = true
-changes_names (Rmdir path) = true
-changes_names (Rename old_path new_path) = true
-changes_names (OpenCall path mode) = false
-changes_names (Close fd) = false
-changes_names (ReadCall fd offset len) = false
-changes_names (WriteCall fd offset bytes) = false
-changes_names (Truncate fd size) = false
-changes_names (StatCall path) = false
-changes_names (ReaddirCall path) = false
-changes_names (Fsync fd) = false
+IsWant (Read ino) = ino.0 < inodes
+IsWant (Write ino) = ino.0 < inodes
 
 -- what a client may ask: what it may want, or a change
 abbrev pub IsAsked : Asked → Type 0
 IsAsked (Wants want) = IsWant want
-IsAsked (Change call) = changes_names call ≡ true
+IsAsked (Change call) = is_change call ≡ true
 
 -- what a request may be: of a client of the cluster, with a number from 1
 pub record IsRequest (r : Request) : Type 0 where
-  pub client : r.client.0 < 16
+  pub client : r.client.0 < clients
   pub number : 1 ≤ r.number
   pub asked : IsAsked r.asked
 

@@ -1,10 +1,11 @@
 ghost use Rattle.std.specs.Prelude.{List, Bool, All};
 ghost use Rattle.cal_base.specs.declared.identity.ClientId.{ClientId};
 ghost use Rattle.cal_base.specs.declared.identity.Ino.{Ino};
+ghost use Rattle.token_kind.specs.declared.«class».Class.{Class};
 ghost use Rattle.token_kind.specs.declared.token.Token.{Token};
 ghost use Rattle.token_table.specs.Table.{Table, IsTable};
-ghost use Rattle.token_table.specs.Blockers.{blockers_of};
-ghost use Rattle.revocation.specs.Formed.{AreAskable, AreNeeds};
+ghost use Rattle.token_table.specs.Blockers.{blockers_of, touchers_of};
+ghost use Rattle.revocation.specs.Formed.{AreAskable, AreNeeds, AreTouches};
 ghost use Rattle.revocation.specs.Order.{AreInOrder, AreSentWhereNeeded};
 ghost use Rattle.token_kind.specs.declared.blocker.Blocker.{Blocker};
 ghost use Rattle.token_kind.specs.declared.hold.Hold.{Hold};
@@ -28,8 +29,9 @@ pub fn revokes_go_in_order()
     ensures needed { (asked : List (HoldKey × Hold)) (blockers : List Blocker) → AreSentWhereNeeded asked blockers (revokes_of asked blockers) }
 {}
 
-/// What blocks the needs of a client may be asked: where its needs are Names of directories, and Data, Attr
-/// and Open of files, by any telling of inodes into the two.
+/// What blocks the needs of a client, and who holds what a change touches, may be asked: where the needs and
+/// touches are Names of directories, and Data, Attr and Open of files, by any telling of inodes into the two.
 pub fn what_blocks_may_be_asked()
-    ensures { (t : Table) (c : ClientId) (is_directory : Ino → Bool) (needs : List Token) → IsTable t → AreNeeds is_directory needs → AreAskable (blockers_of t c needs) }
+    ensures needs { (t : Table) (c : ClientId) (is_directory : Ino → Bool) (needs : List Token) → IsTable t → AreNeeds is_directory needs → AreAskable (blockers_of t c needs) }
+    ensures touches { (t : Table) (is_directory : Ino → Bool) (touches : List (Ino × Class)) → AreTouches is_directory touches → AreAskable (touchers_of t touches) }
 {}

@@ -8,6 +8,12 @@ hold_number Nothing = 0
 hold_number Read = 1
 hold_number Write = 2
 
+-- something is held
+abbrev pub is_held : Hold → Bool
+is_held Nothing = false
+is_held Read = true
+is_held Write = true
+
 -- the lesser of two holds
 abbrev pub lesser_of : Hold → Hold → Hold
 lesser_of Nothing b = Nothing

@@ -7,8 +7,9 @@
 //! these answers as its definition in specs/Class.antt and specs/Hold.antt says.
 //!
 //! The records are moved by the crates above. What of them the system sends is said here once: `IsFlush`
-//! in specs/Flush.antt, `IsRevoke` and `IsRelease` in specs/Kept.antt. `IsFlushed` says which contents a
-//! flush turns what is kept into, and [`one_flushed`] that there is one such contents alone.
+//! in specs/Flush.antt, `IsRevoke` and `IsRelease` in specs/Kept.antt, `IsReported` in specs/Token.antt.
+//! `IsFlushed` says which contents a flush turns what is kept into, and [`one_flushed`] that there is one
+//! such contents alone.
 #![tactic(auto)]
 
 mod block;

@@ -1,5 +1,6 @@
 use Rattle.std.specs.Prelude.{◌≡◌, ℕ, zero, suc, List, [], ◌∷◌, ◌++◌, Bool, true, false, ◌&&◌, not, Option, Some, None, if◌then◌else◌}
 use Rattle.std.specs.List.{filter_map, flat_map}
+use Rattle.cal_base.specs.Limits.{clients}
 use Rattle.cal_base.specs.declared.identity.ClientId.{ClientId}
 use Rattle.cal_base.specs.declared.identity.Ino.{Ino}
 use Rattle.token_kind.specs.Hold.{conflict}
@@ -43,7 +44,7 @@ blocker_of t c need d =
 
 -- all holds of others that conflict with what client c needs: by needs in their order, then by clients in order
 abbrev pub blockers_of : Table → ClientId → List Token → List Blocker
-blockers_of t c needs = flat_map (λ need. filter_map (blocker_of t c need) (clients_below 16)) needs
+blockers_of t c needs = flat_map (λ need. filter_map (blocker_of t c need) (clients_below clients)) needs
 
 -- the hold of client d in a class that is touched
 abbrev pub toucher_of : Table → Ino × Class → ClientId → Option Blocker
@@ -54,7 +55,7 @@ toucher_of t touch d =
 
 -- all holds in the classes that are touched: by touches in their order, then by clients in order
 abbrev pub touchers_of : Table → List (Ino × Class) → List Blocker
-touchers_of t touches = flat_map (λ touch. filter_map (toucher_of t touch) (clients_below 16)) touches
+touchers_of t touches = flat_map (λ touch. filter_map (toucher_of t touch) (clients_below clients)) touches
 
 -- some client has the file open
 abbrev pub IsOpened : Table → Ino → Type 0

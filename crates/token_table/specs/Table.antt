@@ -1,9 +1,11 @@
 use Rattle.std.specs.Prelude.{◌<◌, ◌≡◌, List, Bool, true, false, ◌&&◌, nat_eq, unwrap_or, count_by, if◌then◌else◌}
 use Rattle.std.specs.Map.{lookup}
+use Rattle.cal_base.specs.Limits.{clients, inodes}
 use Rattle.cal_base.specs.declared.identity.ClientId.{ClientId}
 use Rattle.cal_base.specs.declared.identity.Ino.{Ino}
-use Rattle.token_kind.specs.Class.{has_write}
 use Rattle.token_kind.specs.Hold.{conflict}
+pub use Rattle.token_kind.specs.Hold.{is_held}
+pub use Rattle.token_kind.specs.Token.{IsToken, may_hold}
 use Rattle.token_kind.specs.declared.«class».Class.{Class}
 use Rattle.token_kind.specs.declared.«class».Class.TheVariants.{Names, Data, Attr, Open}
 use Rattle.token_kind.specs.declared.hold.Hold.{Hold}
@@ -50,30 +52,14 @@ is_data_write Data Write = true
 is_data_write Attr hold = false
 is_data_write Open hold = false
 
--- a client holds something
-abbrev pub is_held : Hold → Bool
-is_held Nothing = false
-is_held Read = true
-is_held Write = true
-
--- a hold of this class can be so: Write of Data and Attr alone
-abbrev pub may_hold : Class → Hold → Bool
-may_hold cls Nothing = true
-may_hold cls Read = true
-may_hold cls Write = has_write cls
-
 -- a client's hold may become that of a token: it conflicts with no hold of another client
 abbrev pub IsGrantable : Table → ClientId → Token → Type 0
 IsGrantable t c token = (d : ClientId) → same_client c d ≡ false → conflict token.hold (held_of t d token.ino token.«class») ≡ false
-
--- what a token is: its class can be held so
-abbrev pub IsToken : Token → Type 0
-IsToken token = may_hold token.«class» token.hold ≡ true
 
 -- the rule of a table: no two clients hold conflicting tokens; each Data Write hold stands once in the order of writes,
 -- with nothing else; holds are of the cluster's clients and the volume's inodes; Names and Open are never Write
 pub record IsTable (t : Table) : Type 0 where
   pub apart : (c d : ClientId) (ino : Ino) (cls : Class) → same_client c d ≡ false → conflict (held_of t c ino cls) (held_of t d ino cls) ≡ false
   pub listed : (c : ClientId) (ino : Ino) → count_by (same_write (c, ino)) t.writes ≡ (if is_data_write Data (held_of t c ino Data) then 1 else 0)
-  pub within : (c : ClientId) (ino : Ino) (cls : Class) → is_held (held_of t c ino cls) ≡ true → (c.0 < 16) × (ino.0 < 512)
+  pub within : (c : ClientId) (ino : Ino) (cls : Class) → is_held (held_of t c ino cls) ≡ true → (c.0 < clients) × (ino.0 < inodes)
   pub modes : (c : ClientId) (ino : Ino) (cls : Class) → may_hold cls (held_of t c ino cls) ≡ true

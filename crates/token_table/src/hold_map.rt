@@ -61,7 +61,7 @@ impl HoldMap {
 
     /// Whether no client of the cluster has a hold that is in the way of what the client needs.
     pub fn is_free(&self, c: ClientId, need: Token) -> bool
-        ensures { IsTrue result ↔ ((k : ℕ) → k < 16 → blocks self.now c need (record { 0 = k }) ≡ false) }
+        ensures { IsTrue result ↔ ((k : ℕ) → k < CLIENTS → blocks self.now c need (record { 0 = k }) ≡ false) }
     {
         for number in 0..CLIENTS {
             if self.blocks(c, need, ClientId(number)) {
@@ -101,7 +101,7 @@ impl HoldMap {
     /// Whether one of the cluster's clients has the file open.
     pub fn is_opened(&self, ino: Ino) -> bool
         ensures yes { IsTrue result → IsOpened self.now ino }
-        ensures no { result ≡ false → (k : ℕ) → k < 16 → has_open self.now ino (record { 0 = k }) ≡ false }
+        ensures no { result ≡ false → (k : ℕ) → k < CLIENTS → has_open self.now ino (record { 0 = k }) ≡ false }
     {
         for number in 0..CLIENTS {
             if self.has_open(ino, ClientId(number)) {

@@ -187,7 +187,7 @@ impl TokenTable {
     }
 
     fn put_blockers(&self, c: ClientId, need: Token, out: &mut BlockerList) -> Result<(), Oom>
-        ensures { OnOk result (out.new ≡ out.old ++ filter_map (blocker_of self.now c need) (clients_below 16)) }
+        ensures { OnOk result (out.new ≡ out.old ++ filter_map (blocker_of self.now c need) (clients_below CLIENTS)) }
     {
         for number in 0..CLIENTS {
             put_item(out, self.blocker(c, need, ClientId(number)))?;
@@ -211,7 +211,7 @@ impl TokenTable {
     }
 
     fn put_touchers(&self, touch: (Ino, Class), out: &mut BlockerList) -> Result<(), Oom>
-        ensures { OnOk result (out.new ≡ out.old ++ filter_map (toucher_of self.now touch) (clients_below 16)) }
+        ensures { OnOk result (out.new ≡ out.old ++ filter_map (toucher_of self.now touch) (clients_below CLIENTS)) }
     {
         for number in 0..CLIENTS {
             put_item(out, self.toucher(touch, ClientId(number)))?;

@@ -1,5 +1,6 @@
 pub mod After
 pub mod Answer
+pub mod Change
 pub mod Descriptors
 pub mod FileState
 pub mod Idle

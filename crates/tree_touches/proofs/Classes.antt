@@ -3,6 +3,7 @@ use Rattle.std.proofs.Common.{◌≡◌, ◌≢◌, ◌==◌, ◌⊎◌, inl, in
 use Rattle.cal_base.specs.declared.directory_entry.EntryKind.TheVariants.{File as IsFile, Directory as IsDirectory}
 use Rattle.cal_base.specs.declared.identity.ClientId.{ClientId}
 use Rattle.cal_base.specs.declared.identity.Ino.{Ino}
+use Rattle.tree_law.specs.Change.{is_change}
 use Rattle.tree_law.specs.PartOf.{kind_of}
 use Rattle.tree_law.specs.Needs.{Touch, touched_names, touched_file, touched_unlink, touched_rmdir, touched_target, touched_places, touched_rename}
 use Rattle.tree_law.specs.Tree.{Tree, node_at}
@@ -22,7 +23,7 @@ use Rattle.tree_facts.proofs.Entries.{is_directory_by}
 use Rattle.tree_facts.proofs.Paths.{judged_file, judged_directory, judged_empty}
 use Rattle.tree_facts.proofs.Moves.{moves_by}
 use Rattle.tree_facts.proofs.Writers.{new_free}
-use Rattle.tree_touches.specs.Touching.{IsChange, IsUntouched, ShowsNode, IsClassUntouched}
+use Rattle.tree_touches.specs.Touching.{IsUntouched, ShowsNode, IsClassUntouched}
 use Rattle.tree_touches.proofs.Changes.{Misses, found_place}
 use Rattle.tree_touches.proofs.Named.{numbered}
 use Rattle.tree_touches.proofs.Untouched.{untouched_stays}
@@ -191,7 +192,7 @@ not_shown (Some (Regular file)) class none shows = absurd (cc)
 not_shown None class none shows = shows
 
 pub class_stays : (history : List Entry) (client : ClientId) (number : ℕ) (call : Call) (reply : Reply) (new : Option Ino) (ino : Ino) (class : ℕ)
-    → IsLegal history → IsNext (tree_of history) (Called client number call reply new) → IsChange call → ShowsNode (node_at (tree_of history) ino) class → IsClassUntouched (tree_of history) call ino class
+    → IsLegal history → IsNext (tree_of history) (Called client number call reply new) → is_change call ≡ true → ShowsNode (node_at (tree_of history) ino) class → IsClassUntouched (tree_of history) call ino class
     → node_at (after (tree_of history) (Called client number call reply new)) ino ≡ node_at (tree_of history) ino
 class_stays history client number call reply new ino class legal next change shows spares =
     untouched_stays history client number call reply new ino legal next change (missed (tree_of history) call ino class shows spares)

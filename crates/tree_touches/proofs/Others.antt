@@ -6,6 +6,7 @@ use Rattle.cal_base.specs.Limits.{file_size}
 use Rattle.cal_base.specs.declared.identity.ClientId.{ClientId}
 use Rattle.cal_base.specs.declared.identity.Ino.{Ino}
 use Rattle.file_bytes.specs.Bytes.{resized, written}
+use Rattle.tree_law.specs.Change.{is_change}
 use Rattle.tree_law.specs.Tree.{Tree, node_at, table_of, least_unused}
 use Rattle.tree_law.specs.Resolve.{file_named}
 use Rattle.tree_law.specs.Descriptors.{opened, writable, within_limit}
@@ -27,7 +28,7 @@ use Rattle.tree_law.specs.declared.reply.Why.TheVariants.{FBig}
 use Rattle.tree_law.proofs.IdleLemmas.{node_of}
 use Rattle.tree_law.proofs.Histories.{IsClean, history_clean}
 use Rattle.tree_facts.proofs.Entries.{NamesIt}
-use Rattle.tree_touches.specs.Touching.{IsChange, IsOfFile}
+use Rattle.tree_touches.specs.Touching.{IsOfFile}
 use Rattle.tree_touches.proofs.Named.{numbered}
 use Rattle.tree_touches.proofs.Staying.{Stays, unaltered, named_by, swept_stays}
 
@@ -131,12 +132,12 @@ closed_stays tree client fd ino other = descriptor_stays tree client fd None ino
 
 -- ---- every such call
 
-carried_stays : (tree : Tree) (client : ClientId) (call : Call) (new : Option Ino) (ino : Ino) → IsClean tree → ¬ (IsChange call) → ¬ (IsOfFile tree client call ino) → node_at (carried_out tree client call new) ino ≡ node_at tree ino
-carried_stays tree client (Create path) new ino clean unchanging other = absurd (unchanging tt)
-carried_stays tree client (Mkdir path) new ino clean unchanging other = absurd (unchanging tt)
-carried_stays tree client (Unlink path) new ino clean unchanging other = absurd (unchanging tt)
-carried_stays tree client (Rmdir path) new ino clean unchanging other = absurd (unchanging tt)
-carried_stays tree client (Rename path goal) new ino clean unchanging other = absurd (unchanging tt)
+carried_stays : (tree : Tree) (client : ClientId) (call : Call) (new : Option Ino) (ino : Ino) → IsClean tree → is_change call ≡ false → ¬ (IsOfFile tree client call ino) → node_at (carried_out tree client call new) ino ≡ node_at tree ino
+carried_stays tree client (Create path) new ino clean unchanging other = absurd (cc)
+carried_stays tree client (Mkdir path) new ino clean unchanging other = absurd (cc)
+carried_stays tree client (Unlink path) new ino clean unchanging other = absurd (cc)
+carried_stays tree client (Rmdir path) new ino clean unchanging other = absurd (cc)
+carried_stays tree client (Rename path goal) new ino clean unchanging other = absurd (cc)
 carried_stays tree client (Open path mode) new ino clean unchanging other = swept_stays tree _ ino.0 clean (opened_stays tree client (least_unused (table_of tree client)) (file_named tree path) mode ino.0 refl)
 carried_stays tree client (Close fd) new ino clean unchanging other = swept_stays tree _ ino.0 clean (closed_stays tree client fd ino other)
 carried_stays tree client (Read fd offset len) new ino clean unchanging other = refl
@@ -150,7 +151,7 @@ carried_stays tree client (Stat path) new ino clean unchanging other = refl
 carried_stays tree client (Readdir path) new ino clean unchanging other = refl
 carried_stays tree client (Fsync fd) new ino clean unchanging other = refl
 
-called_stays : (tree : Tree) (client : ClientId) (call : Call) (reply : Reply) (new : Option Ino) (ino : Ino) → IsClean tree → ¬ (IsChange call) → ¬ (IsOfFile tree client call ino) → node_at (after_call tree client call reply new) ino ≡ node_at tree ino
+called_stays : (tree : Tree) (client : ClientId) (call : Call) (reply : Reply) (new : Option Ino) (ino : Ino) → IsClean tree → is_change call ≡ false → ¬ (IsOfFile tree client call ino) → node_at (after_call tree client call reply new) ino ≡ node_at tree ino
 called_stays tree client call Done new ino clean unchanging other = carried_stays tree client call new ino clean unchanging other
 called_stays tree client call (Fd fd) new ino clean unchanging other = carried_stays tree client call new ino clean unchanging other
 called_stays tree client call (Bytes bytes) new ino clean unchanging other = carried_stays tree client call new ino clean unchanging other
@@ -160,7 +161,7 @@ called_stays tree client call Dir new ino clean unchanging other = carried_stays
 called_stays tree client call (Listed names) new ino clean unchanging other = carried_stays tree client call new ino clean unchanging other
 called_stays tree client call (Refused why) new ino clean unchanging other = refl
 
-pub call_leaves : (history : List Entry) (client : ClientId) (number : ℕ) (call : Call) (reply : Reply) (new : Option Ino) (ino : Ino) → ¬ (IsChange call) → ¬ (IsOfFile (tree_of history) client call ino)
+pub call_leaves : (history : List Entry) (client : ClientId) (number : ℕ) (call : Call) (reply : Reply) (new : Option Ino) (ino : Ino) → is_change call ≡ false → ¬ (IsOfFile (tree_of history) client call ino)
     → node_at (after (tree_of history) (Called client number call reply new)) ino ≡ node_at (tree_of history) ino
 call_leaves history client number call reply new ino unchanging other = called_stays (tree_of history) client call reply new ino (history_clean history) unchanging other
 

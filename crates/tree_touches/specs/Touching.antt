@@ -1,5 +1,5 @@
 -- Which inodes an entry may alter: those that a change touches, and the file of a call on a descriptor.
-use Rattle.std.specs.Prelude.{◌≡◌, ◌≢◌, ◌⊎◌, ℕ, Option, Some, None, Ok, All, ⊤}
+use Rattle.std.specs.Prelude.{◌≡◌, ◌≢◌, ◌⊎◌, ℕ, Option, Some, None, Ok, All}
 use Rattle.cal_base.specs.declared.identity.ClientId.{ClientId}
 use Rattle.cal_base.specs.declared.identity.Ino.{Ino}
 use Rattle.tree_law.specs.Tree.{Tree, table_of}
@@ -8,16 +8,7 @@ use Rattle.tree_law.specs.Needs.{touches}
 use Rattle.tree_law.specs.declared.node.Node.{Node}
 use Rattle.tree_law.specs.declared.node.Node.TheVariants.{Directory, Regular}
 use Rattle.tree_law.specs.declared.call.Call.{Call}
-use Rattle.tree_law.specs.declared.call.Call.TheVariants.{Create, Mkdir, Unlink, Rmdir, Rename, Close, Write, Truncate}
-
--- a call that changes the names of the tree
-abbrev pub IsChange : Call → Type 0
-IsChange (Create path) = ⊤
-IsChange (Mkdir path) = ⊤
-IsChange (Unlink path) = ⊤
-IsChange (Rmdir path) = ⊤
-IsChange (Rename path goal) = ⊤
-IsChange _ = ⊥
+use Rattle.tree_law.specs.declared.call.Call.TheVariants.{Close, Write, Truncate}
 
 -- an inode is in no class among what a change touches
 abbrev pub IsUntouched : Tree → Call → Ino → Type 0

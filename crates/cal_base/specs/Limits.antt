@@ -69,6 +69,10 @@ slot_size = 32
 abbrev pub inodes : ℕ
 inodes = 512
 
+-- the greatest inode; the least is 0, the root
+abbrev pub last_inode : ℕ
+last_inode = 511
+
 -- data blocks of the volume
 abbrev pub blocks : ℕ
 blocks = 2048

@@ -49,6 +49,9 @@ pub const SLOT_SIZE: usize = 32;
 /// Inodes of the volume.
 pub const INODES: usize = 512;
 
+/// The greatest inode; the least is 0, the root.
+pub const LAST_INODE: u32 = 511;
+
 /// Data blocks of the volume.
 pub const BLOCKS: usize = 2_048;
 

@@ -49,6 +49,10 @@ why_bytes MFile = []
 why_bytes BadF = []
 why_bytes FBig = []
 
+-- bytes of the longest reply of a change
+abbrev pub longest_reply : ℕ
+longest_reply = 5
+
 -- a change that is carried out is a 0; what is no reply of a change has no bytes
 abbrev pub reply_bytes : Reply → List ℕ
 reply_bytes Done = 0 ∷ []

@@ -2,6 +2,7 @@
 use Rattle.std.proofs.Common.{◌≡◌, ◌≢◌, ◌+◌, ◌-◌, ◌^◌, ◌<◌, ◌≤◌, ◌++◌, ℕ, Bool, true, false, List, [], ◌∷◌, length, refl, sym, ap, subst, ◌∙◌, arith, append_assoc, length-append, inl, inr}
 use Rattle.std.proofs.lemmas.Bool.{cases_eq}
 use Rattle.std.proofs.lemmas.Bool.Decides.{nat_tests}
+use Rattle.cal_base.specs.Limits.{block_size}
 use Rattle.cal_fields.specs.BigEndian.{big_endian}
 use Rattle.cal_fields.specs.Padded.{padded, zeros}
 use Rattle.cal_fields.proofs.BigEndianLemmas.{big_endian-cancel, length-big_endian}
@@ -14,7 +15,7 @@ use Rattle.change_reply.proofs.ReplyLemmas.{lengths, reply_again, same_read}
 use Rattle.request_log.specs.declared.slot.Slot.{Slot}
 use Rattle.request_log.specs.Kept.{IsLast, StandsBehind}
 use Rattle.cal_fields.specs.Flag.{bool_byte}
-use Rattle.request_log.specs.Slot.{SpellsSlot, head_bytes, kept_bytes}
+use Rattle.request_log.specs.Slot.{SpellsSlot, head_bytes, head_size, kept_bytes}
 
 bool_byte-cancel : (a b : Bool) → bool_byte a ≡ bool_byte b → a ≡ b
 bool_byte-cancel false false e = refl
@@ -26,7 +27,7 @@ pub bool_byte_small : (b : Bool) → bool_byte b < 2
 bool_byte_small false = omega arith
 bool_byte_small true = omega arith
 
-pub length-head_bytes : (purged call flush size : ℕ) → length (head_bytes purged call flush size) ≡ 19
+pub length-head_bytes : (purged call flush size : ℕ) → length (head_bytes purged call flush size) ≡ head_size
 length-head_bytes purged call flush size =
     omega (
       arith,
@@ -143,17 +144,17 @@ same_kept call size behind a b s t = elim (cases_eq call 0) [
 ]
 
 -- what the front and the rest of a sector tell of the slot that it spells
-pub told : (sector behind : List ℕ) (p c f s : ℕ) (slot : Slot) → sector ≡ head_bytes p c f s ++ behind → length behind ≡ 4077 → c < 2 ^ 64 → f < 2 ^ 64 → s < 2 ^ 16 → SpellsSlot sector slot
+pub told : (sector behind : List ℕ) (p c f s : ℕ) (slot : Slot) → sector ≡ head_bytes p c f s ++ behind → length behind ≡ block_size - head_size → c < 2 ^ 64 → f < 2 ^ 64 → s < 2 ^ 16 → SpellsSlot sector slot
     → SameHead p c f s behind (bool_byte slot.purged) slot.call slot.flush (length (kept_bytes slot.call slot.reply)) (padded (length behind) (kept_bytes slot.call slot.reply))
 told sector behind p c f s slot head left fc ff fs spells =
     let kept = kept_bytes slot.call slot.reply in
     let few = length-kept_bytes slot.call slot.reply spells.slot.reply.change in
     let front = length-head_bytes (bool_byte slot.purged) slot.call slot.flush (length kept) in
-    let parts = padded_behind (head_bytes (bool_byte slot.purged) slot.call slot.flush (length kept)) kept 4096 (length behind) (omega arith) in
+    let parts = padded_behind (head_bytes (bool_byte slot.purged) slot.call slot.flush (length kept)) kept block_size (length behind) (omega arith) in
     head_bytes-cancel p c f s behind (bool_byte slot.purged) slot.call slot.flush (length kept) (padded (length behind) kept) fc spells.slot.call ff spells.slot.flush fs (omega arith)
     (sym head ∙ spells.whole ∙ parts)
 
-pub told_kept : (sector behind : List ℕ) (p c f s : ℕ) (slot : Slot) → sector ≡ head_bytes p c f s ++ behind → length behind ≡ 4077 → c < 2 ^ 64 → f < 2 ^ 64 → s < 2 ^ 16 → SpellsSlot sector slot
+pub told_kept : (sector behind : List ℕ) (p c f s : ℕ) (slot : Slot) → sector ≡ head_bytes p c f s ++ behind → length behind ≡ block_size - head_size → c < 2 ^ 64 → f < 2 ^ 64 → s < 2 ^ 16 → SpellsSlot sector slot
     → StandsBehind c s behind slot.reply
 told_kept sector behind p c f s slot head left fc ff fs spells =
     let t = told sector behind p c f s slot head left fc ff fs spells in
@@ -168,7 +169,7 @@ made a b p c f r =
     ∙ ap (λ (x : Reply). build b.purged b.call b.flush x) r
 
 -- the slot that is read is the one that is spelled
-pub same_read_slot : (sector behind : List ℕ) (p c f s : ℕ) (purged : Bool) (reply : Reply) (slot : Slot) → sector ≡ head_bytes p c f s ++ behind → length behind ≡ 4077 → c < 2 ^ 64 → f < 2 ^ 64 → s < 2 ^ 16
+pub same_read_slot : (sector behind : List ℕ) (p c f s : ℕ) (purged : Bool) (reply : Reply) (slot : Slot) → sector ≡ head_bytes p c f s ++ behind → length behind ≡ block_size - head_size → c < 2 ^ 64 → f < 2 ^ 64 → s < 2 ^ 16
     → p ≡ bool_byte purged → StandsBehind c s behind reply → SpellsSlot sector slot → record { purged = purged; call = c; flush = f; reply = reply } ≡ slot
 same_read_slot sector behind p c f s purged reply slot head left fc ff fs is stands spells =
     let t = told sector behind p c f s slot head left fc ff fs spells in
@@ -176,7 +177,7 @@ same_read_slot sector behind p c f s purged reply slot head left fc ff fs is sta
     (same_kept c s behind reply slot.reply stands (told_kept sector behind p c f s slot head left fc ff fs spells))
 
 -- what is read is spelled
-pub read_spells : (sector behind : List ℕ) (p c f s : ℕ) (purged : Bool) (reply : Reply) → sector ≡ head_bytes p c f s ++ behind → length behind ≡ 4077 → c < 2 ^ 64 → f < 2 ^ 64
+pub read_spells : (sector behind : List ℕ) (p c f s : ℕ) (purged : Bool) (reply : Reply) → sector ≡ head_bytes p c f s ++ behind → length behind ≡ block_size - head_size → c < 2 ^ 64 → f < 2 ^ 64
     → p ≡ bool_byte purged → StandsBehind c s behind reply → SpellsSlot sector (record { purged = purged; call = c; flush = f; reply = reply })
 read_spells sector behind p c f s purged reply head left fc ff is stands =
     let kept = kept_bytes c reply in
@@ -185,7 +186,7 @@ read_spells sector behind p c f s purged reply head left fc ff is stands =
     record {
       slot = record { call = fc; flush = ff; reply = stands.kept };
       whole = head ∙ ap (λ (xs : List ℕ). xs ++ behind) same ∙ ap (λ (xs : List ℕ). head_bytes (bool_byte purged) c f (length kept) ++ xs) stands.whole
-          ∙ sym (padded_behind (head_bytes (bool_byte purged) c f (length kept)) kept 4096 (length behind) (omega arith));
+          ∙ sym (padded_behind (head_bytes (bool_byte purged) c f (length kept)) kept block_size (length behind) (omega arith));
     }
 
 -- a sector spells one slot
@@ -194,8 +195,8 @@ same_slot sector a b s t =
     let kept = kept_bytes a.call a.reply in
     let few = length-kept_bytes a.call a.reply s.slot.reply.change in
     let front = length-head_bytes (bool_byte a.purged) a.call a.flush (length kept) in
-    let behind = padded 4077 kept in
-    let left : length behind ≡ 4077 = length-padded 4077 kept (omega arith) in
+    let behind = padded (block_size - head_size) kept in
+    let left : length behind ≡ block_size - head_size = length-padded (block_size - head_size) kept (omega arith) in
     let head : sector ≡ head_bytes (bool_byte a.purged) a.call a.flush (length kept) ++ behind = s.whole ∙ padded_behind (head_bytes (bool_byte a.purged) a.call a.flush (length kept)) kept 4096 4077 (omega arith) in
     same_read_slot sector behind (bool_byte a.purged) a.call a.flush (length kept) a.purged a.reply b head left s.slot.call s.slot.flush (omega arith) refl
     (record { kept = s.slot.reply; long = refl; whole = ap (λ (n : ℕ). padded n kept) (sym left) }) t

@@ -1,5 +1,6 @@
 -- The slot of a client: what a volume knows of its requests, and the sector that spells it.
 use Rattle.std.specs.Prelude.{◌≡◌, ◌==◌, ◌<◌, ◌^◌, ◌++◌, ◌∷◌, [], ℕ, Bool, List, length, if◌then◌else◌}
+use Rattle.cal_base.specs.Limits.{block_size}
 use Rattle.cal_fields.specs.BigEndian.{big_endian}
 use Rattle.cal_fields.specs.Flag.{bool_byte}
 use Rattle.cal_fields.specs.Padded.{padded}
@@ -15,6 +16,10 @@ kept_bytes call reply = if call == 0 then [] else reply_bytes reply
 -- whether it was purged, the number of the last change, that of the last flush, and the length of the reply
 abbrev pub head_bytes : ℕ → ℕ → ℕ → ℕ → List ℕ
 head_bytes purged call flush size = ((purged ∷ big_endian 8 call) ++ big_endian 8 flush) ++ big_endian 2 size
+
+-- bytes of what stands before the reply
+abbrev pub head_size : ℕ
+head_size = 19
 
 -- the fields of a slot
 abbrev pub slot_fields : Slot → List ℕ
@@ -34,4 +39,4 @@ pub record IsSlot (s : Slot) : Type 0 where
 -- A sector spells a slot: its fields, and zeros behind them.
 pub record SpellsSlot (sector : List ℕ) (s : Slot) : Type 0 where
   pub slot : IsSlot s
-  pub whole : sector ≡ padded 4096 (slot_fields s)
+  pub whole : sector ≡ padded block_size (slot_fields s)

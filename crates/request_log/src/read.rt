@@ -1,10 +1,11 @@
-ghost use Rattle.std.specs.Prelude.{◌≡◌, ◌≢◌, ◌↔◌, ◌≤◌, ◌<◌, ◌+◌, ◌^◌, ◌++◌, ◌∷◌, ℕ, List, Ok, length, IsErr, IsTrue, IfOk, OnErr};
+ghost use Rattle.std.specs.Prelude.{◌-◌, ◌≡◌, ◌≢◌, ◌↔◌, ◌≤◌, ◌<◌, ◌+◌, ◌^◌, ◌++◌, ◌∷◌, ℕ, List, Ok, length, IsErr, IsTrue, IfOk, OnErr};
+ghost use Rattle.cal_base.specs.Limits.{block_size};
 ghost use Rattle.cal_fields.specs.Padded.{zeros};
 ghost use Rattle.tree_law.specs.declared.reply.Reply.{Reply};
 ghost use Rattle.change_reply.specs.ReplyBytes.{IsChangeReply, reply_bytes};
 ghost use Rattle.request_log.specs.declared.slot.Slot.{Slot};
 ghost use Rattle.cal_fields.specs.Flag.{bool_byte};
-ghost use Rattle.request_log.specs.Slot.{IsKept, SpellsSlot, head_bytes, kept_bytes};
+ghost use Rattle.request_log.specs.Slot.{IsKept, SpellsSlot, head_bytes, head_size, kept_bytes};
 ghost use Rattle.request_log.specs.Kept.{IsLast, StandsBehind};
 
 use crate::slot::Slot;
@@ -48,9 +49,9 @@ struct Head<'a> {
 }
 
 fn head_of(bytes: &[u8]) -> Head<'_>
-    requires { length bytes.now ≡ 4096 }
+    requires { length bytes.now ≡ block_size }
     ensures head { bytes.now ≡ head_bytes result.purged result.call result.flush result.size ++ result.behind.now }
-    ensures length { length result.behind.now ≡ 4077 }
+    ensures length { length result.behind.now ≡ block_size - head_size }
 {
     let mut behind = bytes;
     let purged = take_u8(&mut behind).unwrap();

@@ -1,5 +1,6 @@
 ghost use Rattle.std.specs.Prelude.{◌≡◌, ◌≤◌, ◌+◌, ◌++◌, length};
-ghost use Rattle.change_reply.specs.ReplyBytes.{IsChangeReply, IsChangeWhy, reply_bytes, why_bytes};
+ghost use Rattle.cal_base.specs.Limits.{block_size};
+ghost use Rattle.change_reply.specs.ReplyBytes.{IsChangeReply, IsChangeWhy, longest_reply, reply_bytes, why_bytes};
 ghost use Rattle.request_log.specs.Slot.{IsKept, IsSlot, SpellsSlot, head_bytes, kept_bytes};
 
 use crate::slot::Slot;
@@ -65,7 +66,7 @@ fn why_size(why: Why) -> u16
 
 /// Puts the reply of a slot.
 fn put_kept(fields: &mut SectorFields, call: u64, reply: &Reply)
-    requires room { length fields.old + 5 ≤ 4096 }
+    requires room { length fields.old + longest_reply ≤ block_size }
     requires reply { IsKept call reply.now }
     ensures { fields.new ≡ fields.old ++ kept_bytes call reply.now }
 {
@@ -76,7 +77,7 @@ fn put_kept(fields: &mut SectorFields, call: u64, reply: &Reply)
 
 /// Puts the reply of a change.
 fn put_reply(fields: &mut SectorFields, reply: &Reply)
-    requires room { length fields.old + 5 ≤ 4096 }
+    requires room { length fields.old + longest_reply ≤ block_size }
     requires reply { IsChangeReply reply.now }
     ensures { fields.new ≡ fields.old ++ reply_bytes reply.now }
 {
@@ -88,7 +89,7 @@ fn put_reply(fields: &mut SectorFields, reply: &Reply)
 }
 
 fn put_why(fields: &mut SectorFields, why: Why)
-    requires room { length fields.old + 5 ≤ 4096 }
+    requires room { length fields.old + longest_reply ≤ block_size }
     requires why { IsChangeWhy why }
     ensures { fields.new ≡ fields.old ++ why_bytes why }
 {

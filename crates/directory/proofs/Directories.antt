@@ -4,6 +4,7 @@ use Rattle.std.specs.List.{slice_set}
 use Rattle.std.proofs.lemmas.Bool.{cases_eq}
 use Rattle.std.proofs.lemmas.Bool.Decides.{nat_tests}
 use Rattle.std.proofs.lemmas.List.{length-set, length-replicate}
+use Rattle.cal_base.specs.Limits.{block_size, directory_entries, last_inode, slot_size, slots_per_block}
 use Rattle.tree_law.specs.Path.{IsName}
 use Rattle.cal_base.specs.declared.identity.Ino.{Ino}
 use Rattle.cal_fields.specs.Padded.{padded, zeros}
@@ -30,7 +31,7 @@ are_drop (suc count) [] are place e at = (let both : None ≡ Some e = at in cc)
 are_drop (suc count) (x ∷ xs) are place e at = are_drop count xs (λ p f h. are (suc p) f h) place e at
 
 -- one block more
-pub directory_loaded : (old new : List (Option DirEntry)) (sector : List ℕ) → IsDirectory old → length old < 1024 → Continues old sector new → IsDirectory new
+pub directory_loaded : (old new : List (Option DirEntry)) (sector : List ℕ) → IsDirectory old → length old < directory_entries → Continues old sector new → IsDirectory new
 directory_loaded old new sector d room k =
     let size = ap length k.whole ∙ length-append old k.slots in
     let block = k.spelled.count in
@@ -100,7 +101,7 @@ directory_filled slots place e d absent is =
     ]
 
 -- one entry of another inode
-pub directory_replaced : (old new : List (Option DirEntry)) (name : List ℕ) (ino : ℕ) → IsDirectory old → 1 ≤ ino → ino ≤ 511 → Replaces old name ino new → IsDirectory new
+pub directory_replaced : (old new : List (Option DirEntry)) (name : List ℕ) (ino : ℕ) → IsDirectory old → 1 ≤ ino → ino ≤ last_inode → Replaces old name ino new → IsDirectory new
 directory_replaced old new name ino d from_one to_511 r = subst IsDirectory (sym r.changed) changed
   where
     e : DirEntry
@@ -150,7 +151,7 @@ all_taken [] e = refl
 all_taken (None ∷ slots) e = absurd (omega arith)
 all_taken (Some x ∷ slots) e = ap suc (all_taken slots (omega arith))
 
-pub room_full : (slots : List (Option DirEntry)) → first_empty slots ≡ length slots → with_room slots ≡ slots ++ replicate 128 None
+pub room_full : (slots : List (Option DirEntry)) → first_empty slots ≡ length slots → with_room slots ≡ slots ++ replicate slots_per_block None
 unfolding with_room
 room_full slots e = grind (arith, nat_tests)
 
@@ -167,20 +168,20 @@ entry_at-room (x ∷ slots) count zero = refl
 entry_at-room (x ∷ slots) count (suc place) = entry_at-room slots count place
 
 -- the bytes of entries
-pub length-slots_bytes : (slots : List (Option DirEntry)) → AreEntries slots → length (slots_bytes slots) ≡ 32 * length slots
+pub length-slots_bytes : (slots : List (Option DirEntry)) → AreEntries slots → length (slots_bytes slots) ≡ slot_size * length slots
 unfolding slots_bytes
 length-slots_bytes [] are = refl
 length-slots_bytes (x ∷ slots) are =
     omega (arith, length-append (slot_bytes x) (slots_bytes slots), length-slot_bytes x (slot_is (x ∷ slots) 0 are), length-slots_bytes slots (λ p e h. are (suc p) e h))
 
 -- a sector that is full has no zeros behind
-pub padded_full : (bytes : List ℕ) → length bytes ≡ 4096 → padded 4096 bytes ≡ bytes
+pub padded_full : (bytes : List ℕ) → length bytes ≡ block_size → padded block_size bytes ≡ bytes
 unfolding padded zeros
 padded_full bytes size = (let none : 4096 - length bytes ≡ 0 = omega arith in ap (λ (n : ℕ). bytes ++ replicate n 0) none ∙ append-nil bytes)
 
 -- a block is stored
 pub stored : (now slots seen : List (Option DirEntry)) (block : ℕ) (fields sector : List ℕ) → IsDirectory slots → slots ≡ now → seen ≡ slots → 128 * block < length now
-    → fields ≡ slots_bytes (take (128 * block + 128 - 128 * block) (drop (128 * block) seen)) → sector ≡ padded 4096 fields → SpellsBlock sector (block_slots now block)
+    → fields ≡ slots_bytes (take (128 * block + 128 - 128 * block) (drop (128 * block) seen)) → sector ≡ padded block_size fields → SpellsBlock sector (block_slots now block)
 stored now slots seen block fields sector d view saw within put finished =
     let part = take (128 * block + 128 - 128 * block) (drop (128 * block) now) in
     let same : seen ≡ now = saw ∙ view in
@@ -190,7 +191,7 @@ stored now slots seen block fields sector d view saw within put finished =
     let count : length part ≡ 128 = omega (arith, length-take (128 * block + 128 - 128 * block) (drop (128 * block) now), length-drop (128 * block) now) in
     let spelled : fields ≡ slots_bytes part = put ∙ ap (λ (xs : List (Option DirEntry)). slots_bytes (take (128 * block + 128 - 128 * block) (drop (128 * block) xs))) same in
     let size : length (slots_bytes part) ≡ 4096 = omega (arith, length-slots_bytes part are) in
-    record { count = count; entries = are; whole = finished ∙ ap (padded 4096) spelled ∙ padded_full (slots_bytes part) size }
+    record { count = count; entries = are; whole = finished ∙ ap (padded block_size) spelled ∙ padded_full (slots_bytes part) size }
 
 -- room is made: the slots hold what they held, and are whole blocks
 pub entry_at-with_room : (slots : List (Option DirEntry)) (place : ℕ) → entry_at (with_room slots) place ≡ entry_at slots place
@@ -200,21 +201,21 @@ entry_at-with_room slots place = elim (cases_eq (first_empty slots) (length slot
 ]
 
 record Sized (slots : List (Option DirEntry)) : Type 0 where
-  whole : length slots % 128 ≡ 0
-  few : length slots ≤ 1024
+  whole : length slots % slots_per_block ≡ 0
+  few : length slots ≤ directory_entries
 
-sized : (slots : List (Option DirEntry)) → Sized slots → entry_count slots < 1024 → Sized (with_room slots)
+sized : (slots : List (Option DirEntry)) → Sized slots → entry_count slots < directory_entries → Sized (with_room slots)
 sized slots s free = elim (cases_eq (first_empty slots) (length slots)) [
   | inl full ↦ (
       let taken = all_taken slots full in
-      let size = ap length (room_full slots full) ∙ length-append slots (replicate 128 None) in
+      let size = ap length (room_full slots full) ∙ length-append slots (replicate slots_per_block None) in
       let block : length (replicate {A = Option DirEntry} 128 None) ≡ 128 = length-replicate {A = Option DirEntry} 128 None in
       let whole = s.whole in
       record { whole = omega arith; few = omega arith })
   | inr left ↦ subst Sized (sym (room_free slots left)) s
 ]
 
-pub directory_room : (slots : List (Option DirEntry)) → IsDirectory slots → entry_count slots < 1024 → IsDirectory (with_room slots)
+pub directory_room : (slots : List (Option DirEntry)) → IsDirectory slots → entry_count slots < directory_entries → IsDirectory (with_room slots)
 directory_room slots d free =
     let s = sized slots (record { whole = d.whole; few = d.few }) free in
     record {
@@ -230,8 +231,8 @@ absent_room now slots made name other view room named absent p e at same =
     absent p e (ap (λ (xs : List (Option DirEntry)). entry_at xs p) (sym view) ∙ sym (entry_at-with_room slots p) ∙ ap (λ (xs : List (Option DirEntry)). entry_at xs p) (sym room) ∙ at) (same ∙ named)
 
 -- an entry is inserted
-pub directory_inserted : (now slots made new : List (Option DirEntry)) (place : ℕ) (name : List ℕ) (e : DirEntry) → IsDirectory slots → entry_count slots < 1024 → slots ≡ now → made ≡ with_room slots
-    → e.name ≡ name → IsAbsent now name → IsName name → 1 ≤ e.ino.0 → e.ino.0 ≤ 511 → new ≡ slice_set made place (Some e) → IsDirectory new
+pub directory_inserted : (now slots made new : List (Option DirEntry)) (place : ℕ) (name : List ℕ) (e : DirEntry) → IsDirectory slots → entry_count slots < directory_entries → slots ≡ now → made ≡ with_room slots
+    → e.name ≡ name → IsAbsent now name → IsName name → 1 ≤ e.ino.0 → e.ino.0 ≤ last_inode → new ≡ slice_set made place (Some e) → IsDirectory new
 directory_inserted now slots made new place name e d free view room named absent is from_one to_511 put =
     let whole : IsDirectory made = subst IsDirectory (sym room) (directory_room slots d free) in
     let entry : IsEntry e = record { name = subst IsName (sym named) is; from_one = from_one; to_511 = to_511 } in

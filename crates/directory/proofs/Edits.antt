@@ -4,6 +4,7 @@ use Rattle.std.specs.List.{slice_set}
 use Rattle.std.proofs.lemmas.Bool.{cases_eq}
 use Rattle.std.proofs.lemmas.Bool.Decides.{nat_tests}
 use Rattle.std.proofs.lemmas.List.{get_or-drop, get_or-set_other, get_or-set_same, get_or_default, length-set, length-replicate}
+use Rattle.cal_base.specs.Limits.{block_size, directory_entries, slots_per_block}
 use Rattle.directory.specs.declared.entry.DirEntry.{DirEntry}
 use Rattle.directory.specs.declared.slot_changes.PlacedEntry.{PlacedEntry}
 use Rattle.directory.specs.declared.slot_changes.SlotChanges.{SlotChanges}
@@ -75,9 +76,9 @@ block_more old now new slots first at x within is before put =
     put_more old now new (drop first slots) at x inside (is ∙ sym read ∙ sym (get_or_default (drop first slots) at x None inside)) before put
 
 -- a block of empty slots more
-pub directory_grown : (slots : List (Option DirEntry)) → IsDirectory slots → length slots < 1024 → IsDirectory (slots ++ replicate 128 None)
+pub directory_grown : (slots : List (Option DirEntry)) → IsDirectory slots → length slots < directory_entries → IsDirectory (slots ++ replicate slots_per_block None)
 directory_grown slots d room =
-    let size = length-append {A = Option DirEntry} slots (replicate 128 None) in
+    let size = length-append {A = Option DirEntry} slots (replicate slots_per_block None) in
     let block : length (replicate {A = Option DirEntry} 128 None) ≡ 128 = length-replicate {A = Option DirEntry} 128 None in
     let whole = d.whole in
     record {
@@ -109,14 +110,14 @@ entered_whole : (entering : Option PlacedEntry) (slots : List (Option DirEntry))
 entered_whole None slots = refl
 entered_whole (Some p) slots = length-set slots p.place (Some p.entry.now)
 
-grown_whole : (grows : Bool) (slots : List (Option DirEntry)) → length slots % 128 ≡ 0 → length (grown grows slots) % 128 ≡ 0
+grown_whole : (grows : Bool) (slots : List (Option DirEntry)) → length slots % slots_per_block ≡ 0 → length (grown grows slots) % slots_per_block ≡ 0
 grown_whole true slots whole =
-    let size = length-append {A = Option DirEntry} slots (replicate 128 None) in
+    let size = length-append {A = Option DirEntry} slots (replicate slots_per_block None) in
     let block : length (replicate {A = Option DirEntry} 128 None) ≡ 128 = length-replicate {A = Option DirEntry} 128 None in
     omega arith
 grown_whole false slots whole = whole
 
-pub after_whole : (changes : SlotChanges) (slots : List (Option DirEntry)) → length slots % 128 ≡ 0 → length (after changes slots) % 128 ≡ 0
+pub after_whole : (changes : SlotChanges) (slots : List (Option DirEntry)) → length slots % slots_per_block ≡ 0 → length (after changes slots) % slots_per_block ≡ 0
 after_whole changes slots whole =
     let e = entered_whole changes.entering (left changes.leaving (grown changes.grows slots)) in
     let l = left_whole changes.leaving (grown changes.grows slots) in
@@ -128,14 +129,14 @@ pub after_within : (changes : SlotChanges) (now slots seen : List (Option DirEnt
     → 128 * block + 128 ≤ length (after changes seen)
 after_within changes now slots seen block d view saw within =
     let same : seen ≡ now = saw ∙ view in
-    let whole = after_whole changes now (subst (λ (xs : List (Option DirEntry)). length xs % 128 ≡ 0) view d.whole) in
+    let whole = after_whole changes now (subst (λ (xs : List (Option DirEntry)). length xs % slots_per_block ≡ 0) view d.whole) in
     let fits : 128 * block + 128 ≤ length (after changes now) = omega arith in
     subst (λ (xs : List (Option DirEntry)). 128 * block + 128 ≤ length (after changes xs)) (sym same) fits
 
 -- a block is stored as it will be
 pub stored_changed : (changes : SlotChanges) (now slots seen : List (Option DirEntry)) (block : ℕ) (fields sector : List ℕ) → IsDirectory slots → slots ≡ now → seen ≡ slots
     → 128 * block < length (after changes now) → AreEntries (after changes now)
-    → fields ≡ slots_bytes (block_slots (after changes seen) block) → sector ≡ padded 4096 fields → SpellsBlock sector (block_slots (after changes now) block)
+    → fields ≡ slots_bytes (block_slots (after changes seen) block) → sector ≡ padded block_size fields → SpellsBlock sector (block_slots (after changes now) block)
 stored_changed changes now slots seen block fields sector d view saw within entries put finished =
     let same : seen ≡ now = saw ∙ view in
     let fits = after_within changes now slots now block d view (sym view) within in
@@ -144,4 +145,4 @@ stored_changed changes now slots seen block fields sector d view saw within entr
     let count : length part ≡ 128 = omega (arith, length-take (128 * block + 128 - 128 * block) (drop (128 * block) (after changes now)), length-drop (128 * block) (after changes now)) in
     let spelled : fields ≡ slots_bytes part = put ∙ ap (λ (xs : List (Option DirEntry)). slots_bytes (block_slots (after changes xs) block)) same in
     let size : length (slots_bytes part) ≡ 4096 = omega (arith, length-slots_bytes part are) in
-    record { count = count; entries = are; whole = finished ∙ ap (padded 4096) spelled ∙ padded_full (slots_bytes part) size }
+    record { count = count; entries = are; whole = finished ∙ ap (padded block_size) spelled ∙ padded_full (slots_bytes part) size }

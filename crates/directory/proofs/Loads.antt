@@ -1,6 +1,7 @@
 -- The slots that bytes spell, and how a directory takes them.
 use Rattle.std.proofs.Common.{◌≡◌, ◌≢◌, ◌+◌, ◌<◌, ◌++◌, ℕ, zero, suc, List, [], ◌∷◌, length, take, replicate, Option, None, Some, refl, sym, ap, subst, ◌∙◌, arith, append_assoc, append-nil, length-append}
 use Rattle.std.proofs.lemmas.List.{append_cancel_left, get_or_append_left, nil_from_length, take_at}
+use Rattle.cal_base.specs.Limits.{name_bytes, slot_size}
 use Rattle.cal_fields.specs.BigEndian.{big_endian}
 use Rattle.cal_fields.specs.Padded.{padded, zeros}
 use Rattle.cal_fields.proofs.BigEndianLemmas.{big_endian-cancel}
@@ -18,12 +19,12 @@ made a b i n =
     ap (λ (x : List ℕ). build x a.ino.0) n ∙ ap (λ (x : ℕ). build b.name x) i
 
 -- a slot of zeros is no entry
-not_empty : (e : DirEntry) → IsEntry e → zeros 32 ≢ padded 32 (entry_bytes e)
+not_empty : (e : DirEntry) → IsEntry e → zeros slot_size ≢ padded slot_size (entry_bytes e)
 unfolding zeros big_endian
 not_empty e is same =
     let from_one = is.from_one in
     let to_511 = is.to_511 in
-    let split = big_endian-cancel 4 0 e.ino.0 (replicate 28 0) (length e.name ∷ padded 27 e.name) (omega arith) (omega arith) (same ∙ entry_is e) in
+    let split = big_endian-cancel 4 0 e.ino.0 (replicate 28 0) (length e.name ∷ padded name_bytes e.name) (omega arith) (omega arith) (same ∙ entry_is e) in
     let none : 0 ≡ e.ino.0 = split.0 in
     omega arith
 
@@ -34,7 +35,7 @@ same_slot None (Some b) is_a is_b e = absurd (not_empty b is_b e)
 same_slot (Some a) None is_a is_b e = absurd (not_empty a is_a (sym e))
 same_slot (Some a) (Some b) is_a is_b e =
     let small = is_a.to_511 in
-    let t = told (padded 32 (entry_bytes a)) (padded 27 a.name) a.ino.0 (length a.name) b (omega arith) (entry_is a) is_b e in
+    let t = told (padded slot_size (entry_bytes a)) (padded name_bytes a.name) a.ino.0 (length a.name) b (omega arith) (entry_is a) is_b e in
     ap Some (made a b t.same_ino (padded-cancel 27 a.name b.name t.same_count t.same_rest))
 
 -- pieces of one length at the front are the same

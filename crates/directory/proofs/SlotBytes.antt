@@ -3,6 +3,7 @@ use Rattle.std.proofs.Common.{◌≡◌, ◌+◌, ◌-◌, ◌^◌, ◌<◌, ◌
 use Rattle.std.specs.List.{flat_map}
 use Rattle.std.proofs.lemmas.Grind.{flat_map-append}
 use Rattle.std.proofs.lemmas.List.{take_more}
+use Rattle.cal_base.specs.Limits.{name_bytes, slot_size}
 use Rattle.cal_fields.specs.BigEndian.{big_endian}
 use Rattle.cal_fields.specs.Padded.{padded, zeros}
 use Rattle.cal_fields.proofs.BigEndianLemmas.{big_endian-cancel, length-big_endian}
@@ -11,7 +12,7 @@ use Rattle.directory.specs.declared.entry.DirEntry.{DirEntry}
 use Rattle.directory.specs.Block.{AreEntries, entry_at, IsEntry, IsSlot, entry_bytes, slot_bytes, slots_bytes}
 
 -- an entry's slot: its inode, the length of its name, its name, zeros
-pub entry_is : (e : DirEntry) → padded 32 (entry_bytes e) ≡ big_endian 4 e.ino.0 ++ (length e.name ∷ padded 27 e.name)
+pub entry_is : (e : DirEntry) → padded slot_size (entry_bytes e) ≡ big_endian 4 e.ino.0 ++ (length e.name ∷ padded name_bytes e.name)
 unfolding padded
 entry_is e =
     let five = length-append (big_endian 4 e.ino.0) (length e.name ∷ []) in
@@ -24,7 +25,7 @@ entry_is e =
 
 -- what is put field by field is the slot
 pub entry_put : (old a b c new : List ℕ) (e : DirEntry) (left : ℕ) → left ≡ 27 - length e.name → a ≡ old ++ big_endian 4 e.ino.0 → b ≡ a ++ length e.name ∷ []
-    → c ≡ b ++ e.name → new ≡ c ++ zeros left → new ≡ old ++ padded 32 (entry_bytes e)
+    → c ≡ b ++ e.name → new ≡ c ++ zeros left → new ≡ old ++ padded slot_size (entry_bytes e)
 unfolding padded
 entry_put old a b c new e left l ha hb hc hn =
     let five = length-append (big_endian 4 e.ino.0) (length e.name ∷ []) in
@@ -39,33 +40,33 @@ entry_put old a b c new e left l ha hb hc hn =
 pub record Told (ino count : ℕ) (rest : List ℕ) (e : DirEntry) : Type 0 where
   pub same_ino : ino ≡ e.ino.0
   pub same_count : count ≡ length e.name
-  pub same_rest : rest ≡ padded 27 e.name
+  pub same_rest : rest ≡ padded name_bytes e.name
 
 pub told : (bytes rest : List ℕ) (ino count : ℕ) (e : DirEntry) → ino < 2 ^ 32 → bytes ≡ big_endian 4 ino ++ (count ∷ rest)
-    → IsEntry e → bytes ≡ padded 32 (entry_bytes e) → Told ino count rest e
+    → IsEntry e → bytes ≡ padded slot_size (entry_bytes e) → Told ino count rest e
 told bytes rest ino count e fits parts is spelled =
     let small = is.to_511 in
-    let split = big_endian-cancel 4 ino e.ino.0 (count ∷ rest) (length e.name ∷ padded 27 e.name) (omega arith) (omega arith) (sym parts ∙ spelled ∙ entry_is e) in
-    let same : (count ∷ rest) ≡ (length e.name ∷ padded 27 e.name) = split.1 in
+    let split = big_endian-cancel 4 ino e.ino.0 (count ∷ rest) (length e.name ∷ padded name_bytes e.name) (omega arith) (omega arith) (sym parts ∙ spelled ∙ entry_is e) in
+    let same : (count ∷ rest) ≡ (length e.name ∷ padded name_bytes e.name) = split.1 in
     record { same_ino = split.0; same_count = cc; same_rest = cc }
 
 -- what is taken field by field is spelled
 pub entry_taken : (bytes rest front : List ℕ) (count : ℕ) (e : DirEntry) → bytes ≡ big_endian 4 e.ino.0 ++ (count ∷ rest)
-    → e.name ≡ front → length front ≡ count → rest ≡ padded (length rest) front → length rest ≡ 27 → bytes ≡ padded 32 (entry_bytes e)
+    → e.name ≡ front → length front ≡ count → rest ≡ padded (length rest) front → length rest ≡ 27 → bytes ≡ padded slot_size (entry_bytes e)
 entry_taken bytes rest front count e parts named counted behind size =
-    let same : rest ≡ padded 27 e.name = behind ∙ ap (λ (n : ℕ). padded n front) size ∙ ap (padded 27) (sym named) in
+    let same : rest ≡ padded name_bytes e.name = behind ∙ ap (λ (n : ℕ). padded n front) size ∙ ap (padded name_bytes) (sym named) in
     let long : count ≡ length e.name = sym counted ∙ sym (ap length named) in
     parts ∙ ap (λ (xs : List ℕ). big_endian 4 e.ino.0 ++ xs) (ap (λ (n : ℕ). n ∷ rest) long ∙ ap (λ (xs : List ℕ). length e.name ∷ xs) same) ∙ sym (entry_is e)
 
 -- a slot has 32 bytes
-pub length-slot_bytes : (slot : Option DirEntry) → IsSlot slot → length (slot_bytes slot) ≡ 32
-length-slot_bytes None is = length-zeros 32
+pub length-slot_bytes : (slot : Option DirEntry) → IsSlot slot → length (slot_bytes slot) ≡ slot_size
+length-slot_bytes None is = length-zeros slot_size
 length-slot_bytes (Some e) is =
     let long = is.name.to_twenty_seven in
     let five = length-append (big_endian 4 e.ino.0) (length e.name ∷ []) in
     let more = length-append (big_endian 4 e.ino.0 ++ length e.name ∷ []) e.name in
     let four = length-big_endian 4 e.ino.0 in
-    length-padded 32 (entry_bytes e) (omega arith)
+    length-padded slot_size (entry_bytes e) (omega arith)
 
 -- the bytes of one slot more
 pub slots_bytes-append : (xs : List (Option DirEntry)) (x : Option DirEntry) → slots_bytes (xs ++ x ∷ []) ≡ slots_bytes xs ++ slot_bytes x

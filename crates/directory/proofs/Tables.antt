@@ -3,6 +3,7 @@ use Rattle.std.proofs.Common.{◌≡◌, ◌+◌, ◌<◌, ◌≤◌, ◌++◌, 
 use Rattle.std.specs.List.{insert, remove, slice_set}
 use Rattle.std.proofs.lemmas.Bool.{cases_eq}
 use Rattle.std.proofs.lemmas.List.{get_or-set_same, get_or_default, get_or-set_other, length-set}
+use Rattle.cal_base.specs.Limits.{directory_entries}
 use Rattle.cal_base.specs.declared.identity.Ino.{Ino}
 use Rattle.directory.specs.declared.entry.DirEntry.{DirEntry}
 use Rattle.directory.specs.Block.{entry_at}
@@ -24,11 +25,11 @@ table_empty slots index no_slots no_index = subst (λ (xs : List (Option DirEntr
     }
 
 -- there are no more entries than slots
-pub index_few : (slots : List (Option DirEntry)) (index : List ℕ) (hint : ℕ) → IsTable slots index hint → length index ≤ 1024
+pub index_few : (slots : List (Option DirEntry)) (index : List ℕ) (hint : ℕ) → IsTable slots index hint → length index ≤ directory_entries
 index_few slots index hint t = (let few = t.few in let count = t.index.count in let most = entry_count-most slots in omega arith)
 
 -- one empty slot more
-pub table_push : (slots new : List (Option DirEntry)) (index : List ℕ) (hint : ℕ) → IsTable slots index hint → length slots < 1024 → new ≡ slots ++ None ∷ [] → IsTable new index hint
+pub table_push : (slots new : List (Option DirEntry)) (index : List ℕ) (hint : ℕ) → IsTable slots index hint → length slots < directory_entries → new ≡ slots ++ None ∷ [] → IsTable new index hint
 table_push slots new index hint t room is = subst (λ (xs : List (Option DirEntry)). IsTable xs index hint) (sym is) (record {
   index = same_index slots (slots ++ None ∷ []) index (entry_at-push slots) (entry_count-push slots) t.index;
   hint = same_hint slots (slots ++ None ∷ []) hint (entry_at-push slots) t.hint;

@@ -1,12 +1,13 @@
 -- The slots of a directory after the changes of one edit.
 use Rattle.std.specs.Prelude.{◌++◌, ◌==◌, if◌then◌else◌, ℕ, Bool, true, false, List, Option, None, Some, replicate, slice_set}
+use Rattle.cal_base.specs.Limits.{slots_per_block}
 use Rattle.directory.specs.declared.slot_changes.SlotChanges.{SlotChanges}
 use Rattle.directory.specs.declared.slot_changes.PlacedEntry.{PlacedEntry}
 use Rattle.directory.specs.declared.entry.DirEntry.{DirEntry}
 
 -- with a block of empty slots behind the others
 abbrev pub grown : Bool → List (Option DirEntry) → List (Option DirEntry)
-grown true slots = slots ++ replicate 128 None
+grown true slots = slots ++ replicate slots_per_block None
 grown false slots = slots
 
 -- with the slot at a place empty

@@ -1,5 +1,6 @@
 -- A directory: the slots of its blocks in order, as a finite map from names to inodes, with places.
 use Rattle.std.specs.Prelude.{◌≡◌, ◌≢◌, ◌==◌, ◌≤◌, ◌<◌, ◌*◌, ◌+◌, ◌%◌, ◌++◌, ◌∷◌, [], ℕ, suc, List, length, Option, None, Some, replicate, slice_set, slice_range, if◌then◌else◌}
+use Rattle.cal_base.specs.Limits.{directory_entries, slots_per_block}
 use Rattle.cal_base.specs.declared.identity.Ino.{Ino}
 use Rattle.directory.specs.declared.entry.DirEntry.{DirEntry}
 use Rattle.directory.specs.Block.{AreEntries, SpellsBlock, entry_at}
@@ -8,10 +9,10 @@ use Rattle.directory.specs.Block.{AreEntries, SpellsBlock, entry_at}
 abbrev pub AreDistinct : List (Option DirEntry) → Type 0
 AreDistinct slots = (i j : ℕ) (a b : DirEntry) → entry_at slots i ≡ Some a → entry_at slots j ≡ Some b → a.name ≡ b.name → i ≡ j
 
--- what a directory may be: at most eight blocks of 128 slots, entries in them, and no name twice
+-- what a directory may be: whole blocks, no more than it may have, entries in their slots, and no name twice
 pub record IsDirectory (slots : List (Option DirEntry)) : Type 0 where
-  pub whole : length slots % 128 ≡ 0
-  pub few : length slots ≤ 1024
+  pub whole : length slots % slots_per_block ≡ 0
+  pub few : length slots ≤ directory_entries
   pub entries : AreEntries slots
   pub distinct : AreDistinct slots
 
@@ -69,20 +70,20 @@ first_empty (Some e ∷ slots) = suc (first_empty slots)
 
 -- the slots with one block more where no slot is empty
 unfoldable pub with_room : List (Option DirEntry) → List (Option DirEntry)
-with_room slots = if first_empty slots == length slots then slots ++ replicate 128 None else slots
+with_room slots = if first_empty slots == length slots then slots ++ replicate slots_per_block None else slots
 
 -- the slots with one entry more, in the first empty one
 unfoldable pub inserted : List (Option DirEntry) → DirEntry → List (Option DirEntry)
 inserted slots e = slice_set (with_room slots) (first_empty slots) (Some e)
 
--- the next insertion adds a block: no slot is empty, and there are fewer than 1,024
+-- the next insertion adds a block: no slot is empty, and there are fewer than a directory may have
 pub record Grows (slots : List (Option DirEntry)) : Type 0 where
   pub none : first_empty slots ≡ length slots
-  pub fewer : length slots < 1024
+  pub fewer : length slots < directory_entries
 
 -- the slots of one block
 abbrev pub block_slots : List (Option DirEntry) → ℕ → List (Option DirEntry)
-block_slots slots block = slice_range slots (128 * block) (128 * block + 128)
+block_slots slots block = slice_range slots (slots_per_block * block) (slots_per_block * block + slots_per_block)
 
 -- a sector that spells the next block of a directory
 pub record Continues (old : List (Option DirEntry)) (sector : List ℕ) (new : List (Option DirEntry)) : Type 0 where

@@ -3,6 +3,7 @@ use Rattle.std.specs.Prelude.{◌≡◌, ◌≢◌, ◌≤◌, ◌<◌, ℕ, [],
 use Rattle.std.specs.Ordering.{nat_cmp}
 use Rattle.std.specs.Cmp.Lexicographic.{slice_cmp}
 use Rattle.std.specs.declared.cmp.Ordering.TheVariants.{Less}
+use Rattle.cal_base.specs.Limits.{directory_entries}
 use Rattle.directory.specs.declared.entry.DirEntry.{DirEntry}
 use Rattle.directory.specs.Block.{entry_at}
 use Rattle.directory.specs.Directory.{entry_count}
@@ -55,4 +56,4 @@ IsHint slots hint = (place : ℕ) → place < hint → IsTaken slots place
 pub record IsTable (slots : List (Option DirEntry)) (places : List ℕ) (from : ℕ) : Type 0 where
   pub index : IsIndex slots places
   pub hint : IsHint slots from
-  pub few : length slots ≤ 1024
+  pub few : length slots ≤ directory_entries

@@ -3,7 +3,7 @@ use Rattle.std.specs.Prelude.{◌≡◌, ◌++◌, ◌∷◌, [], ℕ, List, len
 use Rattle.directory.specs.declared.entry.DirEntry.{DirEntry}
 use Rattle.directory.specs.Block.{AreEntries, IsSlot, slot_bytes, slots_bytes}
 
--- the slot that 32 bytes spell was put at the end
+-- the slot that these bytes spell was put at the end
 pub record Takes (old : List (Option DirEntry)) (bytes : List ℕ) (new : List (Option DirEntry)) : Type 0 where
   pub slot : Option DirEntry
   pub is : IsSlot slot

@@ -1,4 +1,5 @@
 ghost use Rattle.std.specs.Prelude.{◌≡◌, ◌≢◌, ◌↔◌, ◌≤◌, ◌<◌, ◌+◌, ◌*◌, ◌++◌, ◌∷◌, ℕ, List, Option, Some, length, IsTrue, IfOk, OnErr};
+ghost use Rattle.cal_base.specs.Limits.{block_size, last_inode, name_bytes, slot_size};
 ghost use Rattle.tree_law.specs.Path.{IsName};
 ghost use Rattle.cal_fields.specs.BigEndian.{big_endian};
 ghost use Rattle.cal_fields.specs.Padded.{padded};
@@ -6,7 +7,7 @@ ghost use Rattle.directory.specs.declared.entry.DirEntry.{DirEntry};
 ghost use Rattle.directory.specs.Block.{AreEntries, IsEntry, IsSlot, entry_bytes, slot_bytes, slots_bytes};
 
 use crate::entry::{DirEntry, EntryName};
-use cal_base::{Ino, NAME_BYTES};
+use cal_base::{Ino, LAST_INODE, NAME_BYTES, SLOT_SIZE};
 use cal_fields::{SectorFields, is_zeros, padded_front, take_u8, take_u32};
 use tree_law::is_name;
 
@@ -15,9 +16,9 @@ use tree_law::is_name;
 #[derive(Clone, Copy, Debug, PartialEq, Eq)]
 pub struct BadBlock;
 
-/// What a slot of 32 bytes holds.
+/// What the bytes of a slot hold.
 pub(crate) fn read_slot(bytes: &[u8]) -> Result<Option<DirEntry>, BadBlock>
-    requires { length bytes.now ≡ 32 }
+    requires { length bytes.now ≡ slot_size }
     ensures found { IfOk result (λ slot. bytes.now ≡ slot_bytes slot) }
     ensures slot { IfOk result IsSlot }
     ensures bad { OnErr result ((slot : Option DirEntry) → IsSlot slot → bytes.now ≢ slot_bytes slot) }
@@ -33,16 +34,16 @@ pub(crate) fn read_slot(bytes: &[u8]) -> Result<Option<DirEntry>, BadBlock>
 
 /// Whether an entry may name the inode of this number: one of the volume other than the root.
 fn is_entry_ino(ino: u32) -> bool
-    ensures { IsTrue result ↔ (1 ≤ ino) × (ino ≤ 511) }
+    ensures { IsTrue result ↔ (1 ≤ ino) × (ino ≤ last_inode) }
 {
-    ino >= 1 && ino <= 511
+    ino >= 1 && ino <= LAST_INODE
 }
 
 /// The numbers at the front of a slot, of an inode and of a length, and the bytes behind them.
 fn parts_of(bytes: &[u8]) -> (u32, u8, &[u8])
-    requires { length bytes.now ≡ 32 }
+    requires { length bytes.now ≡ slot_size }
     ensures parts { bytes.now ≡ big_endian 4 result.0 ++ (result.1 ∷ result.2.now) }
-    ensures length { length result.2.now ≡ 27 }
+    ensures length { length result.2.now ≡ name_bytes }
 {
     let mut rest = bytes;
     let ino = take_u32(&mut rest).unwrap();
@@ -50,18 +51,18 @@ fn parts_of(bytes: &[u8]) -> (u32, u8, &[u8])
     (ino, count, rest)
 }
 
-/// The entry that 32 bytes spell.
+/// The entry that the bytes of a slot spell.
 fn read_entry(bytes: &[u8]) -> Result<DirEntry, BadBlock>
-    requires { length bytes.now ≡ 32 }
-    ensures found { IfOk result (λ entry. bytes.now ≡ padded 32 (entry_bytes entry)) }
+    requires { length bytes.now ≡ slot_size }
+    ensures found { IfOk result (λ entry. bytes.now ≡ padded slot_size (entry_bytes entry)) }
     ensures entry { IfOk result IsEntry }
-    ensures bad { OnErr result ((entry : DirEntry) → IsEntry entry → bytes.now ≢ padded 32 (entry_bytes entry)) }
+    ensures bad { OnErr result ((entry : DirEntry) → IsEntry entry → bytes.now ≢ padded slot_size (entry_bytes entry)) }
 {
     let (ino, count, rest) = parts_of(bytes);
     if !is_entry_ino(ino) {
         return Err(BadBlock);
     }
-    if count > 27 {
+    if count as usize > NAME_BYTES {
         return Err(BadBlock);
     }
     let Some(name) = padded_front(rest, count as usize) else {
@@ -76,11 +77,11 @@ fn read_entry(bytes: &[u8]) -> Result<DirEntry, BadBlock>
     })
 }
 
-/// Writes an entry into the next 32 bytes.
+/// Writes an entry into the next bytes.
 pub(crate) fn put_entry(fields: &mut SectorFields, entry: &DirEntry)
-    requires room { length fields.old + 32 ≤ 4096 }
-    requires entry { length entry.now.name ≤ 27 }
-    ensures { fields.new ≡ fields.old ++ padded 32 (entry_bytes entry.now) }
+    requires room { length fields.old + slot_size ≤ block_size }
+    requires entry { length entry.now.name ≤ name_bytes }
+    ensures { fields.new ≡ fields.old ++ padded slot_size (entry_bytes entry.now) }
 {
     let name = entry.name.as_slice();
     fields.put_u32(entry.ino.0);
@@ -89,21 +90,21 @@ pub(crate) fn put_entry(fields: &mut SectorFields, entry: &DirEntry)
     fields.put_zeros(NAME_BYTES - name.len());
 }
 
-/// Writes a slot into the next 32 bytes.
+/// Writes a slot into the next bytes.
 fn put_slot(fields: &mut SectorFields, slot: &Option<DirEntry>)
-    requires room { length fields.old + 32 ≤ 4096 }
+    requires room { length fields.old + slot_size ≤ block_size }
     requires slot { IsSlot slot.now }
     ensures { fields.new ≡ fields.old ++ slot_bytes slot.now }
 {
     match slot {
         Some(entry) => put_entry(fields, entry),
-        None => fields.put_zeros(32),
+        None => fields.put_zeros(SLOT_SIZE),
     }
 }
 
-/// Writes slots, 32 bytes each.
+/// Writes slots, one behind the other.
 pub(crate) fn put_slots(fields: &mut SectorFields, slots: &[Option<DirEntry>])
-    requires room { length fields.old + 32 * length slots.now ≤ 4096 }
+    requires room { length fields.old + slot_size * length slots.now ≤ block_size }
     requires entries { AreEntries slots.now }
     ensures { fields.new ≡ fields.old ++ slots_bytes slots.now }
 {

@@ -1,4 +1,5 @@
 ghost use Rattle.std.specs.Prelude.{◌≡◌, ◌≢◌, ◌==◌, ◌≤◌, ◌<◌, ◌+◌, ◌++◌, ◌*◌, ◌%◌, ◌↔◌, ℕ, [], List, Option, Some, None, length, replicate, slice_set, IfOk, IsErr, OnOk, OnErr, IfSome, IfNone, IsTrue};
+ghost use Rattle.cal_base.specs.Limits.{directory_entries, last_inode, slots_per_block};
 ghost use Rattle.tree_law.specs.Path.{IsName};
 ghost use Rattle.directory.specs.declared.entry.DirEntry.{DirEntry};
 ghost use Rattle.directory.specs.Block.{AreEntries, IsEntry, SpellsBlock, entry_at};
@@ -11,7 +12,7 @@ use crate::entry::{DirEntry, EntryName};
 use crate::load::{cut, push_slots};
 use crate::slot_changes::{SlotChanges, put_slots_after};
 use crate::slot_table::SlotTable;
-use cal_base::{DIRECTORY_ENTRIES, Ino, Oom, Sector};
+use cal_base::{DIRECTORY_ENTRIES, Ino, Oom, SLOTS_PER_BLOCK, Sector};
 use cal_fields::SectorFields;
 use std::alloc::Global;
 use std::marker::Model;
@@ -54,7 +55,7 @@ impl DirBlocks {
     /// sector is outside its grammar, or its name stands already in an earlier slot of the directory;
     /// then nothing is added.
     pub fn load(&mut self, from: &Sector) -> Result<(), BadBlock>
-        requires { length self.old < 1024 }
+        requires { length self.old < directory_entries }
         ensures ok { OnOk result (Continues self.old from.now self.new) }
         ensures bad { OnErr result ((new : List (Option DirEntry)) → ¬ (Continues self.old from.now new)) }
         ensures unchanged { OnErr result (self.new ≡ self.old) }
@@ -71,12 +72,15 @@ impl DirBlocks {
 
     /// Writes the one sector that spells a block, which is there.
     pub fn store(&self, block: u8, into: &mut Sector)
-        requires { 128 * block < length self.now }
+        requires { slots_per_block * block < length self.now }
         ensures { SpellsBlock into.new (block_slots self.now block) }
     {
-        let first = 128 * block as usize;
+        let first = SLOTS_PER_BLOCK * block as usize;
         let mut fields = SectorFields::new();
-        put_slots(&mut fields, &self.table.slots()[first..first + 128]);
+        put_slots(
+            &mut fields,
+            &self.table.slots()[first..first + SLOTS_PER_BLOCK],
+        );
         fields.finish(into);
     }
 
@@ -125,9 +129,9 @@ impl DirBlocks {
         requires name { IsName name.now }
         requires absent { IsAbsent self.old name.now }
         requires from_one { 1 ≤ ino.0 }
-        requires to_511 { ino.0 ≤ 511 }
+        requires to_511 { ino.0 ≤ last_inode }
         ensures ok { OnOk result (self.new ≡ inserted self.old (record { name = name.now; ino = ino })) }
-        ensures full { IsErr result ↔ (entry_count self.old ≡ 1024) }
+        ensures full { IsErr result ↔ (entry_count self.old ≡ directory_entries) }
         ensures unchanged { OnErr result (self.new ≡ self.old) }
     {
         if self.table.count() == DIRECTORY_ENTRIES {
@@ -146,7 +150,7 @@ impl DirBlocks {
     pub fn replace(&mut self, name: &[u8], ino: Ino)
         requires stands { HasName self.old name.now }
         requires from_one { 1 ≤ ino.0 }
-        requires to_511 { ino.0 ≤ 511 }
+        requires to_511 { ino.0 ≤ last_inode }
         ensures { Replaces self.old name.now ino.0 self.new }
     {
         self.table.set_ino(name, ino);
@@ -167,8 +171,8 @@ impl DirBlocks {
 
     /// Adds a block of empty slots behind the others.
     pub fn grow(&mut self)
-        requires { length self.old < 1024 }
-        ensures { self.new ≡ self.old ++ replicate 128 None }
+        requires { length self.old < directory_entries }
+        ensures { self.new ≡ self.old ++ replicate slots_per_block None }
     {
         self.table.push_block();
     }
@@ -208,7 +212,7 @@ impl DirBlocks {
 
     /// Writes the one sector that spells a block as it will be after the changes of an edit.
     pub fn store_changed(&self, block: u8, changes: SlotChanges<'_>, into: &mut Sector)
-        requires within { 128 * block < length (after changes self.now) }
+        requires within { slots_per_block * block < length (after changes self.now) }
         requires entries { AreEntries (after changes self.now) }
         ensures { SpellsBlock into.new (block_slots (after changes.entry self.now) block) }
     {
@@ -228,7 +232,7 @@ impl DirBlocks {
     /// How many entries it has, at most 1,024.
     pub fn count(&self) -> u16
         ensures count { result ≡ entry_count self.now }
-        ensures few { result ≤ 1024 }
+        ensures few { result ≤ directory_entries }
         ensures directory { IsDirectory self.now }
     {
         self.table.count() as u16
@@ -247,9 +251,9 @@ fn ino_in(slot: &Option<DirEntry>) -> Option<Ino>
 
 /// The place of the first empty slot, in a new block where no slot was empty.
 fn make_room(table: &mut SlotTable) -> usize
-    requires whole { length table.old % 128 ≡ 0 }
-    requires few { length table.old ≤ 1024 }
-    requires free { entry_count table.old < 1024 }
+    requires whole { length table.old % slots_per_block ≡ 0 }
+    requires few { length table.old ≤ directory_entries }
+    requires free { entry_count table.old < directory_entries }
     ensures room { table.new ≡ with_room table.old }
     ensures first { result ≡ first_empty table.old }
     ensures within { result < length table.new }

@@ -1,4 +1,5 @@
 ghost use Rattle.std.specs.Prelude.{◌≡◌, ◌≤◌, length, take};
+ghost use Rattle.cal_base.specs.Limits.{name_bytes};
 
 use cal_base::{Ino, NAME_BYTES};
 use std::marker::Model;
@@ -12,18 +13,19 @@ pub struct EntryName {
 
 impl Model for EntryName {
     ghost use Rattle.std.specs.Prelude.{◌≤◌, ℕ, List, take};
+    ghost use Rattle.cal_base.specs.Limits.{name_bytes};
 
     ghost Value = { List ℕ };
 
     ghost view = { λ name. take name.len name.bytes };
 
-    ghost invariant = { λ name. name.len ≤ 27 };
+    ghost invariant = { λ name. name.len ≤ name_bytes };
 }
 
 impl EntryName {
     /// The name of these bytes, at most 27.
     pub fn new(bytes: &[u8]) -> EntryName
-        requires { length bytes.now ≤ 27 }
+        requires { length bytes.now ≤ name_bytes }
         ensures { result ≡ bytes.now }
     {
         let mut name = [0; NAME_BYTES];
@@ -37,7 +39,7 @@ impl EntryName {
     /// Its bytes.
     pub fn as_slice(&self) -> &[u8]
         ensures bytes { result.now ≡ self.now }
-        ensures length { length result.now ≤ 27 }
+        ensures length { length result.now ≤ name_bytes }
     {
         &self.bytes[..self.len]
     }
@@ -63,7 +65,7 @@ pub struct DirEntry {
 impl DirEntry {
     /// The same entry once more.
     pub(crate) fn copied(&self) -> DirEntry
-        requires { length self.now.name ≤ 27 }
+        requires { length self.now.name ≤ name_bytes }
         ensures { result ≡ self.now }
     {
         DirEntry {

@@ -1,4 +1,5 @@
 ghost use Rattle.std.specs.Prelude.{◌≡◌, ◌<◌, ◌+◌, ◌*◌, ℕ, List, Option, length, take};
+ghost use Rattle.cal_base.specs.Limits.{slots_per_block};
 ghost use Rattle.directory.specs.declared.entry.DirEntry.{DirEntry};
 ghost use Rattle.directory.specs.Block.{SpellsBlock};
 ghost use Rattle.directory.specs.Directory.{Continues, IsDirectory, Names, block_slots};
@@ -12,8 +13,8 @@ pub fn one_block()
 /// What is stored loads back: the sector that spells a directory's block may follow the blocks before
 /// it, and gives that block and no other.
 pub fn stored_loads_back()
-    ensures follows { (slots : List (Option DirEntry)) (block : ℕ) (sector : List ℕ) → IsDirectory slots → 128 * block < length slots
-        → SpellsBlock sector (block_slots slots block) → Continues (take (128 * block) slots) sector (take (128 * block + 128) slots) }
+    ensures follows { (slots : List (Option DirEntry)) (block : ℕ) (sector : List ℕ) → IsDirectory slots → slots_per_block * block < length slots
+        → SpellsBlock sector (block_slots slots block) → Continues (take (slots_per_block * block) slots) sector (take (slots_per_block * block + slots_per_block) slots) }
     ensures one { (old a b : List (Option DirEntry)) (sector : List ℕ) → Continues old sector a → Continues old sector b → a ≡ b }
 {}
 

@@ -1,11 +1,13 @@
 ghost use Rattle.std.specs.Prelude.{◌≡◌, ◌≤◌, ◌<◌, ◌+◌, ◌*◌, ◌++◌, List, Option, length};
 ghost use Rattle.std.specs.Option.{option_copied};
+ghost use Rattle.cal_base.specs.Limits.{block_size, slot_size, slots_per_block};
 ghost use Rattle.directory.specs.Block.{AreEntries, IsSlot, entry_at, slot_bytes, slots_bytes};
 ghost use Rattle.directory.specs.Changed.{after, entered_at, left_at};
 ghost use Rattle.directory.specs.Directory.{block_slots};
 
 use crate::block::put_entry;
 use crate::entry::DirEntry;
+use cal_base::{SLOT_SIZE, SLOTS_PER_BLOCK};
 use cal_fields::SectorFields;
 
 /// An entry and its place.
@@ -83,32 +85,32 @@ fn entry_after<'a>(
     entry_entered(changes.entering, place, slot)
 }
 
-/// Writes the slot of an entry, or an empty one, into the next 32 bytes.
+/// Writes the slot of an entry, or an empty one, into the next bytes.
 fn put_entry_slot(fields: &mut SectorFields, entry: Option<&DirEntry>)
-    requires room { length fields.old + 32 ≤ 4096 }
+    requires room { length fields.old + slot_size ≤ block_size }
     requires slot { IsSlot (option_copied entry) }
     ensures { fields.new ≡ fields.old ++ slot_bytes (option_copied entry.entry) }
 {
     match entry {
         Some(entry) => put_entry(fields, entry),
-        None => fields.put_zeros(32),
+        None => fields.put_zeros(SLOT_SIZE),
     }
 }
 
-/// Writes the 128 slots of a block as they are after the changes.
+/// Writes the slots of a block as they are after the changes.
 pub(crate) fn put_slots_after(
     fields: &mut SectorFields,
     slots: &[Option<DirEntry>],
     changes: SlotChanges<'_>,
     block: u8,
 )
-    requires room { length fields.old + 4096 ≤ 4096 }
-    requires within { 128 * block + 128 ≤ length (after changes slots.now) }
+    requires room { length fields.old + block_size ≤ block_size }
+    requires within { slots_per_block * block + slots_per_block ≤ length (after changes slots.now) }
     requires entries { AreEntries (after changes slots.now) }
     ensures { fields.new ≡ fields.old ++ slots_bytes (block_slots (after changes.entry slots.now) block) }
 {
-    let first = 128 * block as usize;
-    for offset in 0..128usize {
+    let first = SLOTS_PER_BLOCK * block as usize;
+    for offset in 0..SLOTS_PER_BLOCK {
         put_entry_slot(fields, entry_after(slots, changes, first + offset));
     }
 }

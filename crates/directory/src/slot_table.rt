@@ -1,4 +1,5 @@
 ghost use Rattle.std.specs.Prelude.{◌≡◌, ◌≢◌, ◌≤◌, ◌<◌, ◌+◌, ◌++◌, ◌∷◌, [], ℕ, None, Some, length, replicate, slice_set, take, ◌-◌, IfOk, IfSome, IfNone, OnOk, OnErr};
+ghost use Rattle.cal_base.specs.Limits.{directory_entries, slots_per_block};
 ghost use Rattle.directory.specs.declared.entry.DirEntry.{DirEntry};
 ghost use Rattle.directory.specs.Block.{entry_at};
 ghost use Rattle.directory.specs.Directory.{IsAbsent, IsAlone, AreDistinct, Repeats, Replaces, HasName, StandsAt, entry_count, first_empty, with_ino};
@@ -7,7 +8,7 @@ ghost use Rattle.directory.specs.Index.{IsIndex, IsTaken};
 use crate::block::BadBlock;
 use crate::entry::DirEntry;
 use crate::index::{first_empty_from, gap, rank, search};
-use cal_base::{DIRECTORY_ENTRIES, Ino, Oom};
+use cal_base::{DIRECTORY_ENTRIES, Ino, Oom, SLOTS_PER_BLOCK};
 use std::alloc::Global;
 use std::marker::Model;
 
@@ -23,6 +24,7 @@ pub(crate) struct SlotTable {
 
 impl Model for SlotTable {
     ghost use Rattle.std.specs.Prelude.{List, Option, ◌≤◌, vec_capacity};
+    ghost use Rattle.cal_base.specs.Limits.{directory_entries};
     ghost use Rattle.directory.specs.declared.entry.DirEntry.{DirEntry};
     ghost use Rattle.directory.specs.Index.{IsTable};
 
@@ -30,7 +32,7 @@ impl Model for SlotTable {
 
     ghost view = { λ it. it.slots.items };
 
-    ghost invariant = { λ it. IsTable it.slots.items it.index.items it.hint × (1024 ≤ vec_capacity it.slots) × (1024 ≤ vec_capacity it.index) };
+    ghost invariant = { λ it. IsTable it.slots.items it.index.items it.hint × (directory_entries ≤ vec_capacity it.slots) × (directory_entries ≤ vec_capacity it.index) };
 }
 
 impl SlotTable {
@@ -51,7 +53,7 @@ impl SlotTable {
     pub(crate) fn slots(&self) -> &[Option<DirEntry>]
         ensures slots { result.now ≡ self.now }
         ensures distinct { AreDistinct self.now }
-        ensures few { length self.now ≤ 1024 }
+        ensures few { length self.now ≤ directory_entries }
     {
         self.slots.as_slice()
     }
@@ -59,7 +61,7 @@ impl SlotTable {
     /// How many slots have an entry.
     pub(crate) fn count(&self) -> usize
         ensures count { result ≡ entry_count self.now }
-        ensures few { result ≤ 1024 }
+        ensures few { result ≤ directory_entries }
     {
         self.index.len()
     }
@@ -105,7 +107,7 @@ impl SlotTable {
 
     /// Puts an empty slot at the end.
     pub(crate) fn push_empty(&mut self)
-        requires { length self.old < 1024 }
+        requires { length self.old < directory_entries }
         ensures { self.new ≡ self.old ++ None ∷ [] }
     {
         self.slots.push(None).unwrap();
@@ -113,10 +115,10 @@ impl SlotTable {
 
     /// Puts an empty block at the end.
     pub(crate) fn push_block(&mut self)
-        requires { length self.old + 128 ≤ 1024 }
-        ensures { self.new ≡ self.old ++ replicate 128 None }
+        requires { length self.old + slots_per_block ≤ directory_entries }
+        ensures { self.new ≡ self.old ++ replicate slots_per_block None }
     {
-        for _ in 0..128usize {
+        for _ in 0..SLOTS_PER_BLOCK {
             self.push_empty();
         }
     }
@@ -201,7 +203,7 @@ impl SlotTable {
 
     /// Puts a slot at the end. Its name must not stand in another slot.
     pub(crate) fn push_slot(&mut self, slot: Option<DirEntry>) -> Result<(), BadBlock>
-        requires { length self.old < 1024 }
+        requires { length self.old < directory_entries }
         ensures ok { OnOk result (self.new ≡ self.old ++ slot ∷ []) }
         ensures bad { OnErr result (Repeats self.old slot) }
         ensures unchanged { OnErr result (self.new ≡ self.old) }

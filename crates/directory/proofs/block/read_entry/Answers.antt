@@ -29,8 +29,8 @@ returns-then-not-is_entry_ino-clause-bad c = λ e is spelled.
     let yes : c.is_entry_ino.result ≡ true = c.is_entry_ino.ensures.1 (omega arith, omega arith) in
     cc
 
-pub returns-then-count-gt27-clause-bad : goal.returns-then-count-gt27-clause-bad
-returns-then-count-gt27-clause-bad c = λ e is spelled.
+pub returns-then-count-gt-NAME_BYTES-clause-bad : goal.returns-then-count-gt-NAME_BYTES-clause-bad
+returns-then-count-gt-NAME_BYTES-clause-bad c = λ e is spelled.
     let t = told _ _ _ _ e (omega arith) c.parts_of-ino.ensures.parts is spelled in
     let long = is.name.to_twenty_seven in
     omega (arith, t.same_count)

@@ -48,11 +48,11 @@ want_again (WriteWant ino) rest good = mapped_again inode_at WriteWant inode_byt
 change_of_takes : (field : List ℕ) (kind : ℕ) (rest : List ℕ) (x : Call × List ℕ) → IsBytes rest → change_of field kind rest ≡ Ok x → Took change_bytes IsChange (kind ∷ rest) x
 change_of_takes field kind rest x fits =
     let P : Read Call → Type 0 = λ read. read ≡ Ok x → Took change_bytes IsChange (kind ∷ rest) x in
-    pick P (kind == 1) _ _ (λ t e. branch_takes path_at Create path_bytes IsPath change_bytes IsChange 1 path_takes (λ p. refl) (λ p is. is) kind rest x (from_eq kind 1 t) fits e) (λ f.
-    pick P (kind == 2) _ _ (λ t e. branch_takes path_at Mkdir path_bytes IsPath change_bytes IsChange 2 path_takes (λ p. refl) (λ p is. is) kind rest x (from_eq kind 2 t) fits e) (λ f.
-    pick P (kind == 3) _ _ (λ t e. branch_takes path_at Unlink path_bytes IsPath change_bytes IsChange 3 path_takes (λ p. refl) (λ p is. is) kind rest x (from_eq kind 3 t) fits e) (λ f.
-    pick P (kind == 4) _ _ (λ t e. branch_takes path_at Rmdir path_bytes IsPath change_bytes IsChange 4 path_takes (λ p. refl) (λ p is. is) kind rest x (from_eq kind 4 t) fits e) (λ f.
-    pick P (kind == 5) _ _ (λ t e. two_takes path_at path_at Rename path_bytes IsPath path_bytes IsPath change_bytes IsChange 5 path_takes path_takes (λ p q. refl) (λ p q is_p is_q. (is_p, is_q)) kind rest x (from_eq kind 5 t) fits e) (λ f e. absurd cc)))))
+    pick P (kind == 1) _ _ (λ t e. branch_takes path_at Create path_bytes IsPath change_bytes IsChange 1 path_takes (λ p. refl) (λ p is. (refl, is)) kind rest x (from_eq kind 1 t) fits e) (λ f.
+    pick P (kind == 2) _ _ (λ t e. branch_takes path_at Mkdir path_bytes IsPath change_bytes IsChange 2 path_takes (λ p. refl) (λ p is. (refl, is)) kind rest x (from_eq kind 2 t) fits e) (λ f.
+    pick P (kind == 3) _ _ (λ t e. branch_takes path_at Unlink path_bytes IsPath change_bytes IsChange 3 path_takes (λ p. refl) (λ p is. (refl, is)) kind rest x (from_eq kind 3 t) fits e) (λ f.
+    pick P (kind == 4) _ _ (λ t e. branch_takes path_at Rmdir path_bytes IsPath change_bytes IsChange 4 path_takes (λ p. refl) (λ p is. (refl, is)) kind rest x (from_eq kind 4 t) fits e) (λ f.
+    pick P (kind == 5) _ _ (λ t e. two_takes path_at path_at Rename path_bytes IsPath path_bytes IsPath change_bytes IsChange 5 path_takes path_takes (λ p q. refl) (λ p q is_p is_q. (refl, (is_p, is_q))) kind rest x (from_eq kind 5 t) fits e) (λ f e. absurd cc)))))
 
 pub change_takes : Takes change_at change_bytes IsChange
 unfolding change_at
@@ -63,16 +63,16 @@ change_takes bytes x fits e =
 
 pub change_again : Again change_at change_bytes IsChange
 unfolding change_at byte_at
-change_again (Create path) rest good = mapped_again path_at Create path_bytes IsPath path_again path rest good
-change_again (Mkdir path) rest good = mapped_again path_at Mkdir path_bytes IsPath path_again path rest good
-change_again (Unlink path) rest good = mapped_again path_at Unlink path_bytes IsPath path_again path rest good
-change_again (Rmdir path) rest good = mapped_again path_at Rmdir path_bytes IsPath path_again path rest good
-change_again (Rename old_path new_path) rest good = two_again path_at path_at Rename path_bytes IsPath path_bytes IsPath path_again path_again old_path new_path rest good.0 good.1
-change_again (OpenCall path mode) rest good = absurd good
-change_again (Close fd) rest good = absurd good
-change_again (ReadCall fd offset len) rest good = absurd good
-change_again (WriteCall fd offset bytes) rest good = absurd good
-change_again (Truncate fd size) rest good = absurd good
-change_again (StatCall path) rest good = absurd good
-change_again (ReaddirCall path) rest good = absurd good
-change_again (Fsync fd) rest good = absurd good
+change_again (Create path) rest good = mapped_again path_at Create path_bytes IsPath path_again path rest good.1
+change_again (Mkdir path) rest good = mapped_again path_at Mkdir path_bytes IsPath path_again path rest good.1
+change_again (Unlink path) rest good = mapped_again path_at Unlink path_bytes IsPath path_again path rest good.1
+change_again (Rmdir path) rest good = mapped_again path_at Rmdir path_bytes IsPath path_again path rest good.1
+change_again (Rename old_path new_path) rest good = two_again path_at path_at Rename path_bytes IsPath path_bytes IsPath path_again path_again old_path new_path rest good.1.0 good.1.1
+change_again (OpenCall path mode) rest good = let none = good.0 in absurd cc
+change_again (Close fd) rest good = let none = good.0 in absurd cc
+change_again (ReadCall fd offset len) rest good = let none = good.0 in absurd cc
+change_again (WriteCall fd offset bytes) rest good = let none = good.0 in absurd cc
+change_again (Truncate fd size) rest good = let none = good.0 in absurd cc
+change_again (StatCall path) rest good = let none = good.0 in absurd cc
+change_again (ReaddirCall path) rest good = let none = good.0 in absurd cc
+change_again (Fsync fd) rest good = let none = good.0 in absurd cc

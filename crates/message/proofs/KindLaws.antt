@@ -4,7 +4,8 @@ use Rattle.std.specs.Prelude.{nat_lt, nat_le, if◌then◌else◌}
 use Rattle.cal_base.specs.declared.directory_entry.EntryKind.{EntryKind}
 use Rattle.cal_base.specs.declared.directory_entry.EntryKind.TheVariants.{File, Directory}
 use Rattle.token_kind.specs.Class.{class_number, has_write}
-use Rattle.token_kind.specs.Hold.{hold_number}
+use Rattle.token_kind.specs.Hold.{hold_number, is_held}
+use Rattle.token_kind.specs.Token.{may_hold}
 use Rattle.token_kind.specs.Kept.{most_left}
 use Rattle.token_kind.specs.declared.«class».Class.{Class}
 use Rattle.token_kind.specs.declared.«class».Class.TheVariants.{Names, Data, Attr, Open}
@@ -12,7 +13,7 @@ use Rattle.token_kind.specs.declared.hold.Hold.{Hold}
 use Rattle.token_kind.specs.declared.hold.Hold.TheVariants.{None as Nothing, Read, Write}
 use Rattle.message.specs.Reading.{byte_field}
 use Rattle.message.specs.Field.{class_at, class_of, entry_kind_of, flag_at, flag_of, fresh_of, held_of, hold_of, kept_of, left_of, next_class_of}
-use Rattle.message.specs.Range.{MayBeFresh, MayHold, MayReport}
+use Rattle.message.specs.Range.{MayBeFresh}
 use Rattle.message.specs.Spelling.{entry_kind_byte, flag_byte}
 use Rattle.message.specs.Tokens.{index_at}
 use Rattle.message.proofs.Exact.{Again, Takes, byte_field_again, byte_field_takes}
@@ -98,35 +99,39 @@ pub next_class_again : (last before : ℕ) → Again (byte_field (next_class_of 
 next_class_again last before = byte_field_again (next_class_of last before) class_number (λ a. (before < class_number a) × (class_number a ≤ last)) (λ a good.
     rw (to_lt before (class_number a) good.0, to_le (class_number a) last good.1) (class_named a))
 
-hold_means : (of : Class) (n : ℕ) (a : Hold) → hold_of of n ≡ Some a → (n ≡ hold_number a) × MayHold of a
+hold_means : (of : Class) (n : ℕ) (a : Hold) → hold_of of n ≡ Some a → (n ≡ hold_number a) × (may_hold of a ≡ true)
 unfolding hold_of
 hold_means of n a =
-    let P : Option Hold → Type 0 = λ o. o ≡ Some a → (n ≡ hold_number a) × MayHold of a in
-    pick P (n == 0) _ _ (λ t e. rw (← some_same Nothing a e) (from_eq n 0 t, omega arith)) (λ f.
-    pick P (n == 1) _ _ (λ t e. rw (← some_same Read a e) (from_eq n 1 t, tt)) (λ f.
+    let P : Option Hold → Type 0 = λ o. o ≡ Some a → (n ≡ hold_number a) × (may_hold of a ≡ true) in
+    pick P (n == 0) _ _ (λ t e. rw (← some_same Nothing a e) (from_eq n 0 t, refl)) (λ f.
+    pick P (n == 1) _ _ (λ t e. rw (← some_same Read a e) (from_eq n 1 t, refl)) (λ f.
     pick P (n == 2 && has_write of) _ _ (λ t e. let both = and_ok _ _ t in rw (← some_same Write a e) (from_eq n 2 both.0, both.1)) (λ f e. absurd cc)))
 
-hold_named : (of : Class) (a : Hold) → MayHold of a → hold_of of (hold_number a) ≡ Some a
+hold_named : (of : Class) (a : Hold) → may_hold of a ≡ true → hold_of of (hold_number a) ≡ Some a
 unfolding hold_of
 hold_named of Nothing good = refl
 hold_named of Read good = refl
 hold_named of Write good = rw good refl
 
-pub hold_takes : (of : Class) → Takes (byte_field (hold_of of)) (λ a. hold_number a ∷ []) (MayHold of)
-hold_takes of = byte_field_takes (hold_of of) hold_number (MayHold of) (λ n a fits means. hold_means of n a means)
+pub hold_takes : (of : Class) → Takes (byte_field (hold_of of)) (λ a. hold_number a ∷ []) (λ a. may_hold of a ≡ true)
+hold_takes of = byte_field_takes (hold_of of) hold_number (λ a. may_hold of a ≡ true) (λ n a fits means. hold_means of n a means)
 
-pub hold_again : (of : Class) → Again (byte_field (hold_of of)) (λ a. hold_number a ∷ []) (MayHold of)
-hold_again of = byte_field_again (hold_of of) hold_number (MayHold of) (hold_named of)
+pub hold_again : (of : Class) → Again (byte_field (hold_of of)) (λ a. hold_number a ∷ []) (λ a. may_hold of a ≡ true)
+hold_again of = byte_field_again (hold_of of) hold_number (λ a. may_hold of a ≡ true) (hold_named of)
 
-held_good : (of : Class) (n : ℕ) (a : Hold) → (n == 0) ≡ false → n ≡ hold_number a → MayHold of a → MayReport of a
+-- what a report may say of a hold in a class: it is one, and can be held so
+abbrev pub MayReport : Class → Hold → Type 0
+MayReport of a = (is_held a ≡ true) × (may_hold of a ≡ true)
+
+held_good : (of : Class) (n : ℕ) (a : Hold) → (n == 0) ≡ false → n ≡ hold_number a → may_hold of a ≡ true → MayReport of a
 held_good of n Nothing other is good = let bad : true ≡ false = rw is at other in absurd cc
-held_good of n Read other is good = tt
-held_good of n Write other is good = good
+held_good of n Read other is good = (refl, good)
+held_good of n Write other is good = (refl, good)
 
 held_named : (of : Class) (a : Hold) → MayReport of a → held_of of (hold_number a) ≡ Some a
-held_named of Nothing good = absurd good
-held_named of Read good = hold_named of Read tt
-held_named of Write good = hold_named of Write good
+held_named of Nothing good = let none = good.0 in absurd cc
+held_named of Read good = hold_named of Read refl
+held_named of Write good = hold_named of Write good.1
 
 pub held_takes : (of : Class) → Takes (byte_field (held_of of)) (λ a. hold_number a ∷ []) (MayReport of)
 held_takes of = byte_field_takes (held_of of) hold_number (MayReport of) (λ n a fits means.
@@ -176,7 +181,7 @@ kept_again of = byte_field_again (kept_of of) hold_number (λ a. hold_number a �
 
 -- what a flush leaves, and nothing where there is none
 abbrev pub MayLeave : Class → ℕ → Hold → Type 0
-MayLeave of flush a = (flush ≡ 0 → a ≡ Nothing) × MayHold of a
+MayLeave of flush a = (flush ≡ 0 → a ≡ Nothing) × (may_hold of a ≡ true)
 
 left_good : (flush n : ℕ) (a : Hold) → (flush == 0 && nat_lt 0 n) ≡ false → n ≡ hold_number a → flush ≡ 0 → a ≡ Nothing
 left_good flush n Nothing spares is none = refl
@@ -191,8 +196,8 @@ none_left : (flush : ℕ) → (flush ≡ 0 → ⊥) → (flush == 0) ≡ false
 none_left flush some = elim (flush == 0) as (λ b. (flush == 0) ≡ b → b ≡ false) [ true ↦ λ e. absurd (some (from_eq flush 0 e)) | false ↦ λ e. refl ] refl
 
 left_named : (of : Class) (flush : ℕ) (a : Hold) → MayLeave of flush a → left_of of flush (hold_number a) ≡ Some a
-left_named of flush Nothing good = rw (not_both (flush == 0) false refl) (hold_named of Nothing tt)
-left_named of flush Read good = rw (none_left flush (λ none. (let bad = good.0 none in absurd cc))) (hold_named of Read tt)
+left_named of flush Nothing good = rw (not_both (flush == 0) false refl) (hold_named of Nothing refl)
+left_named of flush Read good = rw (none_left flush (λ none. (let bad = good.0 none in absurd cc))) (hold_named of Read refl)
 left_named of flush Write good = rw (none_left flush (λ none. (let bad = good.0 none in absurd cc))) (hold_named of Write good.1)
 
 pub left_takes : (of : Class) (flush : ℕ) → Takes (byte_field (left_of of flush)) (λ a. hold_number a ∷ []) (MayLeave of flush)

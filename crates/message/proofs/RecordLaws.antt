@@ -7,6 +7,7 @@ use Rattle.cal_base.specs.Blocks.{block_count}
 use Rattle.token_kind.specs.Flush.{IsFlush}
 use Rattle.token_kind.specs.Hold.{hold_number}
 use Rattle.token_kind.specs.Kept.{IsRelease, IsRevoke}
+use Rattle.token_kind.specs.Token.{IsReported}
 use Rattle.token_kind.specs.declared.release.Release.{Release}
 use Rattle.token_kind.specs.declared.revoke.Revoke.{Revoke}
 use Rattle.cal_base.specs.declared.identity.Ino.{Ino}
@@ -16,7 +17,7 @@ use Rattle.token_kind.specs.declared.hold.Hold.{Hold}
 use Rattle.message.specs.Reading.{byte_field, many_at, number_at}
 use Rattle.message.specs.Field.{call_number_at, class_at, flag_at, held_of, inode_at, left_of, size_at, up_to}
 use Rattle.message.specs.Tokens.{block_at, blocks_at, flush_at, kept_at, kept_items_at, piece_at, release_at, reported_at, revoke_at}
-use Rattle.message.specs.Range.{IsInode, IsPiece, IsReported}
+use Rattle.message.specs.Range.{IsInode, IsPiece}
 use Rattle.message.specs.Spelling.{block_bytes, flag_byte, flush_bytes, flush_head_bytes, inode_bytes, items_bytes, piece_bytes, release_bytes, reported_bytes, revoke_bytes}
 use Rattle.message.proofs.Exact.{Again, Takes, begin, many_again, many_takes, number_take, on, then_ok}
 use Rattle.message.proofs.FieldLaws.{call_number_again, call_number_takes, count_again, count_takes, inode_again, inode_takes, size_again, size_takes}
@@ -85,7 +86,13 @@ reported_takes bytes x fits e =
     let leave_took = left_takes of.0.0 flush.0.0 flush.0.1 leave.0 flush_took.fits leave.1 in
     rw (← ok_same _ _ leave.2) (record {
       is = (on (on (on (on (begin inode) class_took) hold_took) flush_took) leave_took).is;
-      good = record { ino = inode.good; hold = hold_took.good; flush = flush_took.good; no_flush = leave_took.good.0; leave = leave_took.good.1 };
+      good = record {
+        ino = inode.good;
+        held = hold_took.good.0;
+        modes = record { hold = hold_took.good.1; leave = leave_took.good.1 };
+        flush = flush_took.good;
+        no_flush = leave_took.good.0;
+      };
       fits = leave_took.fits;
     })
 
@@ -100,9 +107,9 @@ reported_again reported rest good =
     ap reported_at (regroup5 a b c d e rest)
     ∙ then_ok _ _ (reported.token.ino, b ++ (c ++ (d ++ (e ++ rest)))) _ (inode_again reported.token.ino (b ++ (c ++ (d ++ (e ++ rest)))) good.ino)
     (then_ok _ _ (reported.token.class, c ++ (d ++ (e ++ rest))) _ (class_again reported.token.class (c ++ (d ++ (e ++ rest))) tt)
-    (then_ok _ _ (reported.token.hold, d ++ (e ++ rest)) _ (held_again reported.token.class reported.token.hold (d ++ (e ++ rest)) good.hold)
+    (then_ok _ _ (reported.token.hold, d ++ (e ++ rest)) _ (held_again reported.token.class reported.token.hold (d ++ (e ++ rest)) (good.held, good.modes.hold))
     (then_ok _ _ (reported.flush, e ++ rest) _ (number_is 8 reported.flush _ (e ++ rest) good.flush refl)
-    (then_ok _ _ (reported.leave, rest) _ (left_again reported.token.class reported.flush reported.leave rest (good.no_flush, good.leave)) refl))))
+    (then_ok _ _ (reported.leave, rest) _ (left_again reported.token.class reported.flush reported.leave rest (good.no_flush, good.modes.leave)) refl))))
 
 regroup4 : (a b c d rest : List ℕ) → (a ++ b ++ c ++ d) ++ rest ≡ a ++ (b ++ (c ++ (d ++ rest)))
 regroup4 a b c d rest = simp append_assoc refl

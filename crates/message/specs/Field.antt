@@ -1,5 +1,6 @@
 -- What the numbers of fields mean.
 use Rattle.std.specs.Prelude.{◌==◌, ℕ, Bool, true, false, List, Option, Some, None, nat_lt, nat_le, if◌then◌else◌, ◌&&◌}
+use Rattle.cal_base.specs.Limits.{clients, inodes}
 use Rattle.cal_base.specs.declared.identity.ClientId.{ClientId}
 use Rattle.cal_base.specs.declared.identity.Ino.{Ino}
 use Rattle.cal_base.specs.declared.directory_entry.EntryKind.{EntryKind}
@@ -27,12 +28,12 @@ up_to limit number = allowed (λ n. nat_le n limit) number
 abbrev pub one_to : ℕ → ℕ → Option ℕ
 one_to limit number = allowed (λ n. nat_lt 0 n && nat_le n limit) number
 
--- clients are 0 to 15, inodes 0 to 511
+-- a client of the cluster, an inode of the volume
 abbrev pub client_of : ℕ → Option ClientId
-client_of number = if nat_lt number 16 then Some (record { 0 = number }) else None
+client_of number = if nat_lt number clients then Some (record { 0 = number }) else None
 
 abbrev pub inode_of : ℕ → Option Ino
-inode_of number = if nat_lt number 512 then Some (record { 0 = number }) else None
+inode_of number = if nat_lt number inodes then Some (record { 0 = number }) else None
 
 -- 1 is yes, 0 is no
 unfoldable pub flag_of : ℕ → Option Bool

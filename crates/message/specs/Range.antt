@@ -1,5 +1,6 @@
 -- What has a spelling: the limits and orders of a message's fields.
 use Rattle.std.specs.Prelude.{◌≡◌, ◌<◌, ◌≤◌, ◌^◌, ℕ, Bool, true, false, List, length, All, IsTrue}
+use Rattle.cal_base.specs.Limits.{clients, file_size, holds_per_piece, inodes}
 use Rattle.cal_base.specs.declared.identity.Ino.{Ino}
 use Rattle.change_reply.specs.ReplyBytes.{IsChangeReply}
 use Rattle.message.specs.declared.message.Message.{Message}
@@ -7,19 +8,17 @@ use Rattle.message.specs.declared.message.Message.TheVariants.{Acquire, Grant, R
 use Rattle.token_kind.specs.Class.{has_write}
 use Rattle.token_kind.specs.Flush.{IsFlush}
 use Rattle.token_kind.specs.Kept.{IsRelease, IsRevoke}
+use Rattle.token_kind.specs.Token.{IsReported, may_hold}
 use Rattle.token_kind.specs.declared.«class».Class.{Class}
 use Rattle.token_kind.specs.declared.«class».Class.TheVariants.{Names, Data, Attr, Open}
 use Rattle.token_kind.specs.declared.content.Content.{Content}
 use Rattle.token_kind.specs.declared.content.Content.TheVariants.{Nothing as NoContent, Names as Entries, Bytes, Size}
 use Rattle.token_kind.specs.declared.grant_item.GrantItem.{GrantItem}
-use Rattle.token_kind.specs.declared.hold.Hold.{Hold}
-use Rattle.token_kind.specs.declared.hold.Hold.TheVariants.{None as Nothing, Read, Write}
 use Rattle.token_kind.specs.declared.piece.Piece.{Piece as PieceRecord}
-use Rattle.token_kind.specs.declared.reported.Reported.{Reported}
+use Rattle.tree_law.specs.Change.{HasPaths, is_change}
 use Rattle.tree_law.specs.Entries.{AreEntries}
 use Rattle.tree_law.specs.Path.{IsPath}
 use Rattle.tree_law.specs.declared.call.Call.{Call}
-use Rattle.tree_law.specs.declared.call.Call.TheVariants.{Create, Mkdir, Unlink, Rmdir, Rename, Open as OpenCall, Close, Read as ReadCall, Write as WriteCall, Truncate, Stat as StatCall, Readdir as ReaddirCall, Fsync}
 use Rattle.tree_law.specs.declared.request.Want.{Want}
 use Rattle.tree_law.specs.declared.request.Want.TheVariants.{Stat, Open as OpenWant, Readdir, Read as ReadWant, Write as WriteWant}
 
@@ -28,7 +27,7 @@ abbrev pub IsNumber : ℕ → Type 0
 IsNumber number = (1 ≤ number) × (number < 2 ^ 64)
 
 abbrev pub IsInode : Ino → Type 0
-IsInode ino = ino.0 < 512
+IsInode ino = ino.0 < inodes
 
 abbrev pub IsWant : Want → Type 0
 IsWant (Stat path) = IsPath path
@@ -37,32 +36,9 @@ IsWant (Readdir path) = IsPath path
 IsWant (ReadWant ino) = IsInode ino
 IsWant (WriteWant ino) = IsInode ino
 
+-- a change, as its message spells it: with paths
 abbrev pub IsChange : Call → Type 0
-IsChange (Create path) = IsPath path
-IsChange (Mkdir path) = IsPath path
-IsChange (Unlink path) = IsPath path
-IsChange (Rmdir path) = IsPath path
-IsChange (Rename old_path new_path) = IsPath old_path × IsPath new_path
-IsChange (OpenCall path mode) = ⊥
-IsChange (Close fd) = ⊥
-IsChange (ReadCall fd offset len) = ⊥
-IsChange (WriteCall fd offset bytes) = ⊥
-IsChange (Truncate fd size) = ⊥
-IsChange (StatCall path) = ⊥
-IsChange (ReaddirCall path) = ⊥
-IsChange (Fsync fd) = ⊥
-
--- a hold of a class: Write of Data and Attr alone
-abbrev pub MayHold : Class → Hold → Type 0
-MayHold of Nothing = Unit {0}
-MayHold of Read = Unit {0}
-MayHold of Write = IsTrue (has_write of)
-
--- a hold that is one
-abbrev pub MayReport : Class → Hold → Type 0
-MayReport of Nothing = ⊥
-MayReport of Read = Unit {0}
-MayReport of Write = IsTrue (has_write of)
+IsChange call = (is_change call ≡ true) × HasPaths call
 
 -- Names and Open are always fresh
 abbrev pub MayBeFresh : Class → Bool → Type 0
@@ -73,9 +49,9 @@ MayBeFresh of true = Unit {0}
 abbrev pub IsFreshContent : Class → Content → Type 0
 IsFreshContent Names (Entries entries) = (length entries < 2 ^ 16) × AreEntries entries
 IsFreshContent Names other = ⊥
-IsFreshContent Data (Bytes contents) = length contents ≤ 262144
+IsFreshContent Data (Bytes contents) = length contents ≤ file_size
 IsFreshContent Data other = ⊥
-IsFreshContent Attr (Size size) = size ≤ 262144
+IsFreshContent Attr (Size size) = size ≤ file_size
 IsFreshContent Attr other = ⊥
 IsFreshContent Open NoContent = Unit {0}
 IsFreshContent Open other = ⊥
@@ -86,7 +62,7 @@ IsContent of true content = IsFreshContent of content
 
 pub record IsGrantItem (item : GrantItem) : Type 0 where
   pub ino : IsInode item.ino
-  pub hold : MayHold item.class item.hold
+  pub hold : may_hold item.class item.hold ≡ true
   pub fresh : MayBeFresh item.class item.fresh
   pub content : IsContent item.class item.fresh item.content
 
@@ -94,16 +70,9 @@ pub record AreGrantItems (items : List GrantItem) : Type 0 where
   pub count : length items < 2 ^ 16
   pub each : All IsGrantItem items
 
-pub record IsReported (reported : Reported) : Type 0 where
-  pub ino : IsInode reported.token.ino
-  pub hold : MayReport reported.token.class reported.token.hold
-  pub flush : reported.flush < 2 ^ 64
-  pub no_flush : reported.flush ≡ 0 → reported.leave ≡ Nothing
-  pub leave : MayHold reported.token.class reported.leave
-
 pub record IsPiece (piece : PieceRecord) : Type 0 where
   pub index : piece.index < 2 ^ 16
-  pub count : length piece.holds ≤ 32
+  pub count : length piece.holds ≤ holds_per_piece
   pub each : All IsReported piece.holds
 
 -- a message that has a spelling
@@ -119,5 +88,5 @@ IsMessage (Revoke revoke) = IsInode revoke.ino × IsRevoke revoke
 IsMessage (Release release) = IsInode release.ino × IsRelease release
 IsMessage Ask = Unit {0}
 IsMessage (Piece piece) = IsPiece piece
-IsMessage (Wait number client) = IsNumber number × (client.0 < 16)
+IsMessage (Wait number client) = IsNumber number × (client.0 < clients)
 IsMessage Admit = Unit {0}

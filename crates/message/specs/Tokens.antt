@@ -2,6 +2,7 @@
 use Rattle.std.specs.Prelude.{◌+◌, ◌/◌, ◌&&◌, ℕ, Bool, List, Ok, nat_lt, nat_le, if◌then◌else◌}
 use Rattle.token_kind.specs.Class.{class_number}
 use Rattle.cal_base.specs.Blocks.{block_count}
+use Rattle.cal_base.specs.Limits.{block_size, file_size, holds_per_piece, unflushed_blocks}
 use Rattle.token_kind.specs.declared.«class».Class.{Class}
 use Rattle.token_kind.specs.declared.«class».Class.TheVariants.{Names, Data, Attr, Open}
 use Rattle.token_kind.specs.declared.content.Content.{Content}
@@ -19,12 +20,12 @@ use Rattle.message.specs.Names.{entries_at}
 
 -- the content of a fresh grant: entries, bytes, a size, or nothing
 abbrev pub bytes_at : List ℕ → Read (List ℕ)
-bytes_at bytes = size_at 262144 bytes >>= λ count. take_at count.0 count.1
+bytes_at bytes = size_at file_size bytes >>= λ count. take_at count.0 count.1
 
 abbrev pub fresh_content_at : Class → List ℕ → Read Content
 fresh_content_at Names bytes = entries_at bytes >>= λ entries. Ok (Entries entries.0, entries.1)
 fresh_content_at Data bytes = bytes_at bytes >>= λ contents. Ok (Bytes contents.0, contents.1)
-fresh_content_at Attr bytes = size_at 262144 bytes >>= λ size. Ok (Size size.0, size.1)
+fresh_content_at Attr bytes = size_at file_size bytes >>= λ size. Ok (Size size.0, size.1)
 fresh_content_at Open bytes = Ok (NoContent, bytes)
 
 unfoldable pub content_at : Class → Bool → List ℕ → Read Content
@@ -46,10 +47,10 @@ index_at blocks least = byte_field (allowed (λ index. nat_le least index && nat
 
 unfoldable pub block_at : ℕ → ℕ → List ℕ → Read (ℕ × List ℕ)
 block_at blocks least bytes =
-    index_at blocks least bytes >>= λ index. take_at 4096 index.1 >>= λ block. Ok ((index.0, block.0), block.1)
+    index_at blocks least bytes >>= λ index. take_at block_size index.1 >>= λ block. Ok ((index.0, block.0), block.1)
 
 unfoldable pub blocks_at : ℕ → List ℕ → Read (List (ℕ × List ℕ))
-blocks_at blocks bytes = byte_field (up_to 16) bytes >>= λ count. many_at (block_at blocks) (λ block. block.0 + 1) count.0 0 count.1
+blocks_at blocks bytes = byte_field (up_to unflushed_blocks) bytes >>= λ count. many_at (block_at blocks) (λ block. block.0 + 1) count.0 0 count.1
 
 -- what a flush leaves of a class
 abbrev pub kept_at : Class → List ℕ → Read Hold
@@ -58,7 +59,7 @@ kept_at of = byte_field (kept_of of)
 -- the number, from 1 on, the inode, the size, the cut up to that size, what is left, and the blocks
 unfoldable pub flush_at : List ℕ → Read Flush
 flush_at bytes =
-    call_number_at bytes >>= λ number. inode_at number.1 >>= λ ino. size_at 262144 ino.1 >>= λ size. size_at size.0 size.1 >>= λ cut.
+    call_number_at bytes >>= λ number. inode_at number.1 >>= λ ino. size_at file_size ino.1 >>= λ size. size_at size.0 size.1 >>= λ cut.
     kept_at Data cut.1 >>= λ leave_data. kept_at Attr leave_data.1 >>= λ leave_attr. blocks_at (block_count size.0) leave_attr.1 >>= λ pieces.
     Ok (record { number = number.0; ino = ino.0; size = size.0; cut = cut.0; leave_data = leave_data.0; leave_attr = leave_attr.0; pieces = pieces.0 }, pieces.1)
 
@@ -90,6 +91,6 @@ reported_at bytes =
 -- up to 32 holds
 unfoldable pub piece_at : List ℕ → Read Piece
 piece_at bytes =
-    number_at 2 bytes >>= λ index. flag_at index.1 >>= λ last. byte_field (up_to 32) last.1 >>= λ count.
+    number_at 2 bytes >>= λ index. flag_at index.1 >>= λ last. byte_field (up_to holds_per_piece) last.1 >>= λ count.
     alike_at reported_at count.0 count.1 >>= λ holds.
     Ok (record { index = index.0; last = last.0; holds = holds.0 }, holds.1)

@@ -5,7 +5,7 @@ ghost use Rattle.message.specs.Field.{call_number_at, class_at, class_of, client
 
 use crate::input::Input;
 use crate::stop::Stop;
-use cal_base::{ClientId, EntryKind, Ino};
+use cal_base::{CLIENTS, ClientId, EntryKind, Ino};
 use token_kind::{Class, Hold};
 
 impl<'a> Input<'a> {
@@ -39,7 +39,7 @@ impl<'a> Input<'a> {
     {
         let left = self.rest.len();
         let number = self.byte()?;
-        if number < 16 {
+        if number < CLIENTS {
             Ok(ClientId(number))
         } else {
             Err(Stop::Outside { left })

@@ -1,5 +1,6 @@
 ghost use Rattle.std.specs.Prelude.{◌≡◌, ◌<◌, ◌≤◌, ◌^◌, ◌++◌, ◌∷◌, [], ℕ, List, All, OnOk, length};
 ghost use Rattle.std.specs.List.{flat_map};
+ghost use Rattle.cal_base.specs.Limits.{file_size, holds_per_piece, unflushed_blocks};
 ghost use Rattle.cal_fields.specs.BigEndian.{big_endian};
 ghost use Rattle.message.specs.Fits.{ContentFits, NameFits};
 ghost use Rattle.message.specs.Range.{IsChange, IsWant};
@@ -158,7 +159,7 @@ fn put_entries(out: &mut Vec<u8>, entries: &[DirectoryEntry]) -> Result<(), Oom>
 }
 
 fn put_contents(out: &mut Vec<u8>, contents: &[u8]) -> Result<(), Oom>
-    requires { length contents.now ≤ 262144 }
+    requires { length contents.now ≤ file_size }
     ensures { OnOk result (out.new.items ≡ out.old.items ++ content_bytes (Content.Bytes contents.now)) }
 {
     put_u32(out, contents.len() as u32)?;
@@ -249,7 +250,7 @@ fn put_flush_head(out: &mut Vec<u8>, flush: &Flush) -> Result<(), Oom>
 
 #[tactic(auto, unfolding(crate::specs::Spelling::flush_bytes))]
 pub(crate) fn put_flush(out: &mut Vec<u8>, flush: &Flush) -> Result<(), Oom>
-    requires { length flush.now.pieces ≤ 16 }
+    requires { length flush.now.pieces ≤ unflushed_blocks }
     ensures { OnOk result (out.new.items ≡ out.old.items ++ flush_bytes flush.now) }
 {
     put_flush_head(out, flush)?;
@@ -305,7 +306,7 @@ fn put_each_reported(out: &mut Vec<u8>, holds: &[Reported]) -> Result<(), Oom>
 
 #[tactic(auto, unfolding(crate::specs::Spelling::piece_bytes))]
 pub(crate) fn put_piece(out: &mut Vec<u8>, piece: &Piece) -> Result<(), Oom>
-    requires { length piece.now.holds ≤ 32 }
+    requires { length piece.now.holds ≤ holds_per_piece }
     ensures { OnOk result (out.new.items ≡ out.old.items ++ piece_bytes piece.now) }
 {
     put_u16(out, piece.index)?;

@@ -5,11 +5,12 @@ ghost use Rattle.message.specs.Field.{size_at};
 ghost use Rattle.message.specs.Tokens.{block_at, blocks_at, bytes_at, content_at, flush_at, fresh_content_at, grant_item_at, grant_items_at, index_at, kept_item_at, kept_items_at, piece_at, release_at, reported_at, revoke_at};
 ghost use Rattle.token_kind.specs.Class.{class_number};
 ghost use Rattle.cal_base.specs.Blocks.{block_count};
+ghost use Rattle.cal_base.specs.Limits.{block_size, file_size};
 
 use crate::input::Input;
 use crate::names::copy_of;
 use crate::stop::Stop;
-use cal_base::{Blob, Sector};
+use cal_base::{BLOCK_SIZE, Blob, Sector, UNFLUSHED_BLOCKS};
 use std::alloc::Global;
 use token_kind::{
     Class, Content, Flush, GrantItem, GrantItemList, Hold, HoldList, Piece, PieceList, Release,
@@ -100,9 +101,9 @@ impl<'a> Input<'a> {
     }
 
     fn sector(&mut self) -> Result<Sector, Stop>
-        ensures { Reads result self.new.rest.now (take_at 4096 self.old.rest.now) }
+        ensures { Reads result self.new.rest.now (take_at block_size self.old.rest.now) }
     {
-        let bytes = self.bytes(4096)?;
+        let bytes = self.bytes(BLOCK_SIZE)?;
         Ok(sector_of(bytes))
     }
 
@@ -132,7 +133,7 @@ impl<'a> Input<'a> {
     fn blocks(&mut self, alloc: Global, blocks: u32) -> Result<PieceList, Stop>
         ensures { Reads result self.new.rest.now (blocks_at blocks self.old.rest.now) }
     {
-        let count = self.count(16)?;
+        let count = self.count(UNFLUSHED_BLOCKS)?;
         self.ascending_blocks(alloc, blocks, count)
     }
 
@@ -252,17 +253,17 @@ impl<'a> Input<'a> {
 
 /// How many blocks begin before a size.
 fn block_count(size: u32) -> u32
-    requires { size ≤ 262144 }
+    requires { size ≤ file_size }
     ensures { result ≡ block_count size }
 {
     (size + 4_095) / 4_096
 }
 
 fn sector_of(bytes: &[u8]) -> Sector
-    requires { length bytes.now ≡ 4096 }
+    requires { length bytes.now ≡ block_size }
     ensures { result ≡ bytes.now }
 {
-    let mut sector = [0; 4_096];
+    let mut sector = [0; BLOCK_SIZE];
     sector.copy_from_slice(bytes);
     sector
 }

@@ -1,5 +1,5 @@
 -- The slot of a client: what a volume knows of its requests, and the sector that spells it.
-use Rattle.std.specs.Prelude.{◌≡◌, ◌==◌, ◌<◌, ◌^◌, ◌++◌, ◌∷◌, [], ℕ, Bool, List, length, if◌then◌else◌}
+use Rattle.std.specs.Prelude.{◌≡◌, ◌==◌, ◌<◌, ◌^◌, ◌++◌, ◌∷◌, [], ℕ, List, length, if◌then◌else◌}
 use Rattle.cal_base.specs.Limits.{block_size}
 use Rattle.cal_fields.specs.BigEndian.{big_endian}
 use Rattle.cal_fields.specs.Flag.{bool_byte}

@@ -1,5 +1,6 @@
 -- The same bytes to sectors one after the other.
 use Rattle.std.proofs.Common.{◌≡◌, ◌≤◌, ◌+◌, ◌-◌, ◌++◌, ℕ, zero, suc, List, [], ◌∷◌, length, replicate, refl, ap, ◌∙◌, arith, get_or, length-append}
+use Rattle.cal_base.specs.Limits.{file_blocks}
 use Rattle.inode.specs.Inode.{IsInode}
 use Rattle.inode.proofs.InodeLemmas.{small_zeros}
 use Rattle.volume.specs.Format.{blank, format_writes, head_sector, inode_writes, root_inode, to_each}
@@ -38,12 +39,12 @@ length-format_writes clients =
 pub root_is : IsInode root_inode
 root_is = record {
   count = refl;
-  pointers = λ place. (let e : get_or (replicate {A = ℕ} 64 0) place 0 ≡ 0 = small_zeros 64 place in omega arith);
+  pointers = λ place. (let e : get_or (replicate {A = ℕ} 64 0) place 0 ≡ 0 = small_zeros file_blocks place in omega arith);
   allowed = record {
     named = refl;
     whole = refl;
     size = omega arith;
     blocks = λ place below. absurd (omega arith);
-    holes = λ place from. small_zeros 64 place;
+    holes = λ place from. small_zeros file_blocks place;
   };
 }

@@ -6,6 +6,7 @@ use Rattle.std.specs.Cmp.Lexicographic.{slice_cmp}
 use Rattle.std.specs.FinMap as map
 use Rattle.std.proofs.lemmas.List.{get_or-replicate, length-replicate}
 use Rattle.std.proofs.lemmas.Option.{get_or_from_slice_get, slice_get_within}
+use Rattle.cal_base.specs.Limits as limits
 use Rattle.cal_base.specs.declared.identity.ClientId.{ClientId}
 use Rattle.cal_base.specs.declared.identity.Ino.{Ino}
 use Rattle.cal_fields.specs.Padded.{zeros}
@@ -83,11 +84,11 @@ holes_of inode blocks place e h = ap (λ (xs : List ℕ). slice_index xs place) 
 
 no_pointer : (number place block : ℕ) → Points first_inodes number place block → ⊥
 no_pointer zero place block p =
-    let e = holes_of p.inode (replicate 64 0) place (ap (λ (i : Inode). i.blocks) (root_first p.inode p.there)) (small_zeros 64 place) in
+    let e = holes_of p.inode (replicate limits.file_blocks 0) place (ap (λ (i : Inode). i.blocks) (root_first p.inode p.there)) (small_zeros limits.file_blocks place) in
     let n = p.names in
     omega arith
 no_pointer (suc m) place block p =
-    let e = holes_of p.inode (replicate 64 0) place (ap (λ (i : Inode). i.blocks) (free_then m p.inode p.there)) (small_zeros 64 place) in
+    let e = holes_of p.inode (replicate limits.file_blocks 0) place (ap (λ (i : Inode). i.blocks) (free_then m p.inode p.there)) (small_zeros limits.file_blocks place) in
     let n = p.names in
     omega arith
 
@@ -106,7 +107,7 @@ no_entries = record { whole = refl; few = omega arith; entries = λ place e h. a
 empty_spelled : (x : List (List ℕ)) (inode : Inode) → inode.size ≡ 0 → SpellsDirectory x inode []
 empty_spelled x inode e = record { directory = no_entries; count = omega arith; blocks = λ block h. absurd (omega arith) }
 
-head_spelled : (clients : ℕ) (s : List ℕ) → 1 ≤ clients → clients ≤ 16 → s ≡ head_sector clients → SpellsHead s clients
+head_spelled : (clients : ℕ) (s : List ℕ) → 1 ≤ clients → clients ≤ limits.clients → s ≡ head_sector clients → SpellsHead s clients
 unfolding head_sector
 head_spelled clients s some few e = record { some = some; few = few; whole = e }
 
@@ -140,7 +141,7 @@ directory_spelled : (x : List (List ℕ)) (number : ℕ) (inode : Inode) → sli
 directory_spelled x zero inode e dir = subst (λ (s : Slots). SpellsDirectory x inode s) (sym (no_slots_at 0)) (empty_spelled x inode (ap (λ (i : Inode). i.size) (root_first inode e)))
 directory_spelled x (suc m) inode e dir = subst (λ (s : Slots). SpellsDirectory x inode s) (sym (no_slots_at (suc m))) (empty_spelled x inode (ap (λ (i : Inode). i.size) (free_then m inode e)))
 
-volume_spelled : (clients : ℕ) (x : List (List ℕ)) → 1 ≤ clients → clients ≤ 16 → IsFresh clients x → SpellsVolume x (first_volume clients)
+volume_spelled : (clients : ℕ) (x : List (List ℕ)) → 1 ≤ clients → clients ≤ limits.clients → IsFresh clients x → SpellsVolume x (first_volume clients)
 volume_spelled clients x some few f = record {
   head = head_spelled clients (sector x 0) some few f.head;
   map = subst (λ (s : List ℕ). SpellsMap s all_free) (sym (f.free 0 (omega arith))) blank_map;
@@ -196,7 +197,7 @@ unfolding zeros
 blank_closed = refl
 
 -- the first volume, of the sectors that a format leaves
-pub first_stands : (x : List (List ℕ)) (clients : ℕ) → length x ≡ 2596 → 1 ≤ clients → clients ≤ 16 → StandsForHistory (outside (written x (format_writes clients))) (first_volume clients) []
+pub first_stands : (x : List (List ℕ)) (clients : ℕ) → length x ≡ limits.sectors → 1 ≤ clients → clients ≤ limits.clients → StandsForHistory (outside (written x (format_writes clients))) (first_volume clients) []
 first_stands x clients whole some few =
     let formats = format_gives x clients whole in
     record {
@@ -207,13 +208,13 @@ first_stands x clients whole some few =
     }
 
 -- a format leaves the gate closed
-pub format_closes : (x : List (List ℕ)) (clients : ℕ) → length x ≡ 2596 → IsClosed (written x (format_writes clients))
+pub format_closes : (x : List (List ℕ)) (clients : ℕ) → length x ≡ limits.sectors → IsClosed (written x (format_writes clients))
 format_closes x clients long = ap opens (format_gives x clients long).gate ∙ blank_closed
 
-pub format_replays : (x : List (List ℕ)) (clients : ℕ) → length x ≡ 2596 → replayed (written x (format_writes clients)) ≡ Some (outside (written x (format_writes clients)))
+pub format_replays : (x : List (List ℕ)) (clients : ℕ) → length x ≡ limits.sectors → replayed (written x (format_writes clients)) ≡ Some (outside (written x (format_writes clients)))
 format_replays x clients whole = replays_closed (written x (format_writes clients)) (format_closes x clients whole)
 
-pub format_stands : (x : List (List ℕ)) (clients : ℕ) → length x ≡ 2596 → 1 ≤ clients → clients ≤ 16 → Stands (written x (format_writes clients)) []
+pub format_stands : (x : List (List ℕ)) (clients : ℕ) → length x ≡ limits.sectors → 1 ≤ clients → clients ≤ limits.clients → Stands (written x (format_writes clients)) []
 format_stands x clients whole some few = record {
   after = outside (written x (format_writes clients));
   replays = format_replays x clients whole;
@@ -223,7 +224,7 @@ format_stands x clients whole some few = record {
 
 -- a whole run of the format's writes
 pub run_stands : (x : List (List ℕ)) (clients : ℕ) (p : PortState) (d : Disk) (f : ℕ) (r : Result (Unit {0}) PortHalt) (p' : PortState) (d' : Disk) (f' : ℕ)
-    → Runs p d f (format_writes clients) r p' d' f' → d.sectors ≡ Some x → length x ≡ 2596 → 1 ≤ clients → clients ≤ 16 → OnOk r (TellsStanding d' [])
+    → Runs p d f (format_writes clients) r p' d' f' → d.sectors ≡ Some x → length x ≡ limits.sectors → 1 ≤ clients → clients ≤ limits.clients → OnOk r (TellsStanding d' [])
 run_stands x clients p d f (Ok done) p' d' f' a told whole some few = record {
   sectors = written x (format_writes clients);
   told = told_after x (format_writes clients) d d' told (all_after (format_writes clients) p d p' d' a.makes);
@@ -232,7 +233,7 @@ run_stands x clients p d f (Ok done) p' d' f' a told whole some few = record {
 run_stands x clients p d f (Err halt) p' d' f' a told whole some few = tt
 
 pub run_formatted : (x : List (List ℕ)) (clients : ℕ) (p : PortState) (d : Disk) (f : ℕ) (r : Result (Unit {0}) PortHalt) (p' : PortState) (d' : Disk) (f' : ℕ)
-    → Runs p d f (format_writes clients) r p' d' f' → d.sectors ≡ Some x → length x ≡ 2596 → OnOk r (TellsFormatted x clients d')
+    → Runs p d f (format_writes clients) r p' d' f' → d.sectors ≡ Some x → length x ≡ limits.sectors → OnOk r (TellsFormatted x clients d')
 run_formatted x clients p d f (Ok done) p' d' f' a told long = record {
   told = told_after x (format_writes clients) d d' told (all_after (format_writes clients) p d p' d' a.makes);
   closed = format_closes x clients long;

@@ -3,10 +3,11 @@ use Rattle.std.proofs.Common.{◌≡◌, ◌≤◌, ◌+◌, ◌*◌, ◌++◌, 
 use Rattle.std.specs.List.{flat_map}
 use Rattle.std.proofs.lemmas.List.{get_or-replicate, length-replicate, replicate-append-replicate}
 use Rattle.std.proofs.lemmas.Option.{get_or_from_slice_get, slice_get_within}
+use Rattle.cal_base.specs.Limits as limits
 use Rattle.cal_fields.specs.BigEndian.{big_endian}
 use Rattle.cal_fields.specs.Padded.{padded, zeros}
 use Rattle.cal_fields.proofs.PaddedLemmas.{length-zeros, padded-zeros}
-use Rattle.inode.specs.Inode.{IsInode, SpellsInode, inode_fields, pointer_bytes}
+use Rattle.inode.specs.Inode.{IsInode, SpellsInode, fields_size, inode_fields, pointer_bytes}
 use Rattle.inode.specs.declared.inode.Inode.{Inode}
 use Rattle.inode.specs.declared.inode.Kind.TheVariants.{Free}
 use Rattle.inode.proofs.InodeLemmas.{small_zeros}
@@ -21,13 +22,13 @@ pub zeros-append : (m n : ℕ) → zeros m ++ zeros n ≡ zeros (m + n)
 unfolding zeros
 zeros-append m n = replicate-append-replicate m n 0
 
-padded_nothing : blank ≡ padded 4096 []
+padded_nothing : blank ≡ padded limits.block_size []
 unfolding padded
 padded_nothing = refl
 
 -- zeros alone are padded to a blank sector
-pub blank_padded : (n : ℕ) (fields : List ℕ) → fields ≡ zeros n → n ≤ 4096 → blank ≡ padded 4096 fields
-blank_padded n fields e fits = padded_nothing ∙ sym (padded-zeros 4096 n [] (omega arith)) ∙ ap (padded 4096) (sym e)
+pub blank_padded : (n : ℕ) (fields : List ℕ) → fields ≡ zeros n → n ≤ 4096 → blank ≡ padded limits.block_size fields
+blank_padded n fields e fits = padded_nothing ∙ sym (padded-zeros 4096 n [] (omega arith)) ∙ ap (padded limits.block_size) (sym e)
 
 zeros_of_2 : big_endian 2 0 ≡ zeros 2
 unfolding big_endian zeros
@@ -64,13 +65,13 @@ blank_slot = record {
 
 -- an inode that is free
 abbrev pub free_inode : Inode
-free_inode = record { kind = Free; named = false; size = 0; blocks = replicate 64 0 }
+free_inode = record { kind = Free; named = false; size = 0; blocks = replicate limits.file_blocks 0 }
 
 pub free_is : IsInode free_inode
 free_is = record {
   count = refl;
-  pointers = λ place. (let e : get_or (replicate {A = ℕ} 64 0) place 0 ≡ 0 = small_zeros 64 place in omega arith);
-  allowed = record { named = refl; size = refl; holes = λ place from. small_zeros 64 place };
+  pointers = λ place. (let e : get_or (replicate {A = ℕ} 64 0) place 0 ≡ 0 = small_zeros limits.file_blocks place in omega arith);
+  allowed = record { named = refl; size = refl; holes = λ place from. small_zeros limits.file_blocks place };
 }
 
 no_zeros : [] ≡ zeros 0
@@ -90,10 +91,10 @@ six_zeros : (0 ∷ 0 ∷ []) ++ zeros 4 ≡ zeros 6
 unfolding zeros
 six_zeros = refl
 
-inode_zeros : inode_fields free_inode ≡ zeros 134
+inode_zeros : inode_fields free_inode ≡ zeros fields_size
 inode_zeros =
-    ap (λ (xs : List ℕ). ((0 ∷ 0 ∷ []) ++ xs) ++ pointer_bytes (replicate 64 0)) zeros_of_4
-    ∙ ap (λ (xs : List ℕ). xs ++ pointer_bytes (replicate 64 0)) six_zeros
+    ap (λ (xs : List ℕ). ((0 ∷ 0 ∷ []) ++ xs) ++ pointer_bytes (replicate limits.file_blocks 0)) zeros_of_4
+    ∙ ap (λ (xs : List ℕ). xs ++ pointer_bytes (replicate limits.file_blocks 0)) six_zeros
     ∙ ap (λ (xs : List ℕ). zeros 6 ++ xs) (pointer_zeros 64)
     ∙ zeros-append 6 128
 
@@ -146,6 +147,6 @@ pub all_free_true : (i : ℕ) (b : Bool) → slice_get all_free i ≡ Some b →
 unfolding all_free free_blocks zeros
 all_free_true i b e = free_each 256 i b e
 
-pub map_of_free : all_free ≡ replicate 2048 true
+pub map_of_free : all_free ≡ replicate limits.blocks true
 unfolding all_free free_blocks zeros
 map_of_free = all_true 256

@@ -2,6 +2,7 @@
 use Rattle.std.proofs.Common.{◌≡◌, ◌≢◌, ◌<◌, ◌≤◌, ◌+◌, ◌++◌, ◌⊎◌, ℕ, zero, suc, List, [], ◌∷◌, length, drop, replicate, refl, sym, ap, ◌∙◌, inl, inr, arith, get_or}
 use Rattle.std.specs.List.{slice_set}
 use Rattle.std.proofs.Math.ListN.{length-set}
+use Rattle.cal_base.specs.Limits as limits
 use Rattle.shared_disk.specs.Sectors.{written}
 use Rattle.shared_disk.proofs.Changes.{written-append}
 use Rattle.journal.specs.Layout.{outside, sector}
@@ -71,7 +72,7 @@ before_head x head j some low apart =
     ∙ each_apart 511 37 j blank (with_root x) (inl low)
     ∙ sector_other (with_slots x) 36 j root_sector apart
 
-formatted : (x : List (List ℕ)) (clients : ℕ) → length x ≡ 2596 → IsFormatted clients (slice_set (with_inodes x) 0 (head_sector clients))
+formatted : (x : List (List ℕ)) (clients : ℕ) → length x ≡ limits.sectors → IsFormatted clients (slice_set (with_inodes x) 0 (head_sector clients))
 formatted x clients long = record {
   head = sector_same (with_inodes x) 0 (head_sector clients) (let l = inodes_long x in omega arith);
   gate = before_head x (head_sector clients) 1 (omega arith) (omega arith) (λ e. omega arith)
@@ -109,7 +110,7 @@ pub record IsFresh (clients : ℕ) (x : List (List ℕ)) : Type 0 where
   pub root : sector x 36 ≡ root_sector
   pub inodes : (i : ℕ) → i < 511 → sector x (37 + i) ≡ blank
 
-fresh_outside : (clients : ℕ) (x : List (List ℕ)) → length x ≡ 2596 → IsFormatted clients x → IsFresh clients (outside x)
+fresh_outside : (clients : ℕ) (x : List (List ℕ)) → length x ≡ limits.sectors → IsFormatted clients x → IsFresh clients (outside x)
 fresh_outside clients x long f = record {
   head = outside_head x ∙ f.head;
   free = λ i below. outside_at x (19 + i) (omega arith) (omega arith) ∙ f.free i below;
@@ -121,7 +122,7 @@ pub record Formats (clients : ℕ) (x : List (List ℕ)) : Type 0 where
   pub gate : sector x 1 ≡ blank
   pub fresh : IsFresh clients (outside x)
 
-pub format_gives : (x : List (List ℕ)) (clients : ℕ) → length x ≡ 2596 → Formats clients (written x (format_writes clients))
+pub format_gives : (x : List (List ℕ)) (clients : ℕ) → length x ≡ limits.sectors → Formats clients (written x (format_writes clients))
 format_gives x clients long =
     let f = formatted x clients long in
     let long_after = length-set (with_inodes x) 0 (head_sector clients) ∙ inodes_long x ∙ long in

@@ -1,6 +1,7 @@
 -- When sectors stand for a history: they replay to its tree, less unflushed writes.
 use Rattle.std.specs.Prelude.{◌≡◌, ◌⊎◌, ◌↔◌, ◌+◌, ◌<◌, ℕ, false, List, length, slice_get, slice_index, Option, Some, None}
 use Rattle.std.specs.FinMap as map
+use Rattle.cal_base.specs.Limits as limits
 use Rattle.cal_base.specs.declared.identity.ClientId.{ClientId}
 use Rattle.cal_base.specs.declared.identity.Ino.{Ino}
 use Rattle.directory.specs.Directory.{Names as NamesInode}
@@ -56,7 +57,7 @@ pub record IsPointed (inodes : List Inode) (block : ℕ) : Type 0 where
 
 -- a block is in use exactly if a pointer names it, and no two pointers name one block
 pub record AreBlocksKept (v : Volume) : Type 0 where
-  pub used : (block : ℕ) → block < 2048 → (slice_get v.free block ≡ Some false) ↔ IsPointed v.inodes block
+  pub used : (block : ℕ) → block < limits.blocks → (slice_get v.free block ≡ Some false) ↔ IsPointed v.inodes block
   pub apart : (i j p q block : ℕ) → Points v.inodes i p block → Points v.inodes j q block → (i ≡ j) × (p ≡ q)
 
 -- a client's slot: whether it is purged, the number and reply of its last change, and the count of its flushes

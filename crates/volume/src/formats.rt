@@ -1,9 +1,10 @@
 ghost use Rattle.std.specs.Prelude.{◌≡◌, ◌≤◌, [], ℕ, List, Some, length, OnOk};
+ghost use Rattle.cal_base.specs.Limits as limits;
 ghost use Rattle.fence.specs.Writes.{Runs};
 ghost use Rattle.journal.specs.Commit.{IsClosed};
 ghost use Rattle.shared_disk.specs.Disk.{KeepsCount};
 ghost use Rattle.shared_disk.specs.Sectors.{written};
-ghost use Rattle.volume.specs.Format.{TellsFormatted, format_writes};
+ghost use Rattle.volume.specs.Format.{TellsFormatted, format_length, format_writes};
 ghost use Rattle.volume.specs.Stands.{Stands, TellsStanding};
 
 use crate::writes::write_volume;
@@ -15,12 +16,12 @@ use shared_disk::PortDisk;
 /// After `Ok` the disk's sectors stand for the empty history, and the gate is closed.
 pub fn format<D: PortDisk>(port: &mut Port, disk: &mut D, clients: u8) -> Result<(), PortHalt>
     requires some { 1 ≤ clients }
-    requires few { clients ≤ 16 }
-    requires room { 531 ≤ (D.means disk.old).room }
+    requires few { clients ≤ limits.clients }
+    requires room { format_length ≤ (D.means disk.old).room }
     ensures runs { Runs port.old (D.means disk.old) (D.fault_count disk.old) (format_writes clients) result port.new (D.means disk.new) (D.fault_count disk.new) }
-    ensures stands { (sectors : List (List ℕ)) → (D.means disk.old).sectors ≡ Some sectors → length sectors ≡ 2596
+    ensures stands { (sectors : List (List ℕ)) → (D.means disk.old).sectors ≡ Some sectors → length sectors ≡ limits.sectors
         → OnOk result (TellsStanding (D.means disk.new) []) }
-    ensures closed { (sectors : List (List ℕ)) → (D.means disk.old).sectors ≡ Some sectors → length sectors ≡ 2596
+    ensures closed { (sectors : List (List ℕ)) → (D.means disk.old).sectors ≡ Some sectors → length sectors ≡ limits.sectors
         → OnOk result (TellsFormatted sectors clients (D.means disk.new)) }
     ensures count { KeepsCount (D.means disk.old) (D.means disk.new) }
 {
@@ -29,12 +30,12 @@ pub fn format<D: PortDisk>(port: &mut Port, disk: &mut D, clients: u8) -> Result
 
 /// The sectors that a format leaves stand for the empty history, and their gate is closed.
 pub fn a_format_stands_for_no_history()
-    ensures closed { (sectors : List (List ℕ)) (clients : ℕ) → length sectors ≡ 2596 → IsClosed (written sectors (format_writes clients)) }
-    ensures stands { (sectors : List (List ℕ)) (clients : ℕ) → length sectors ≡ 2596 → 1 ≤ clients → clients ≤ 16
+    ensures closed { (sectors : List (List ℕ)) (clients : ℕ) → length sectors ≡ limits.sectors → IsClosed (written sectors (format_writes clients)) }
+    ensures stands { (sectors : List (List ℕ)) (clients : ℕ) → length sectors ≡ limits.sectors → 1 ≤ clients → clients ≤ limits.clients
         → Stands (written sectors (format_writes clients)) [] }
 {}
 
 /// A format is 531 writes.
 pub fn a_format_is_531_writes()
-    ensures { (clients : ℕ) → length (format_writes clients) ≡ 531 }
+    ensures { (clients : ℕ) → length (format_writes clients) ≡ format_length }
 {}

@@ -1,9 +1,13 @@
 ghost use Rattle.std.specs.Prelude.{◌≡◌, ◌≢◌, ◌↔◌, ◌≤◌, ◌<◌, ◌^◌, ◌++◌, ◌∷◌, [], ℕ, List, Ok, length, IsTrue, IfOk, OnErr};
+ghost use Rattle.cal_base.specs.Limits as limits;
 ghost use Rattle.cal_fields.specs.BigEndian.{big_endian};
-ghost use Rattle.volume.specs.Head.{SpellsHead, head_fields, mark};
+ghost use Rattle.volume.specs.Head.{SpellsHead, head_fields, head_size, mark};
 
 use cal_base::{CLIENTS, SECTORS, Sector};
 use cal_fields::{SectorFields, padded_front, take_bytes, take_u8, take_u32};
+
+/// Bytes of the fields of a head.
+const HEAD_SIZE: usize = 13;
 
 /// A sector spells no head.
 #[derive(Clone, Copy, Debug, PartialEq, Eq)]
@@ -14,7 +18,7 @@ pub fn read_head(from: &Sector) -> Result<u8, BadHead>
     ensures found { IfOk result (λ clients. SpellsHead from.now clients) }
     ensures again { (clients : ℕ) → SpellsHead from.now clients → result ≡ Ok clients }
 {
-    let Some(front) = padded_front(from, 13) else {
+    let Some(front) = padded_front(from, HEAD_SIZE) else {
         return Err(BadHead);
     };
     let clients = clients_of(front)?;
@@ -26,14 +30,14 @@ pub fn read_head(from: &Sector) -> Result<u8, BadHead>
 
 /// Whether a volume may have so many clients.
 fn is_count(clients: u8) -> bool
-    ensures { IsTrue result ↔ (1 ≤ clients) × (clients ≤ 16) }
+    ensures { IsTrue result ↔ (1 ≤ clients) × (clients ≤ limits.clients) }
 {
     1 <= clients && clients <= CLIENTS
 }
 
-/// The count of clients that 13 bytes spell.
+/// The count of clients that the fields of a head spell.
 fn clients_of(front: &[u8]) -> Result<u8, BadHead>
-    requires { length front.now ≡ 13 }
+    requires { length front.now ≡ head_size }
     ensures found { IfOk result (λ clients. front.now ≡ head_fields clients) }
     ensures bad { OnErr result ((clients : ℕ) → front.now ≢ head_fields clients) }
 {
@@ -53,7 +57,7 @@ struct Fields<'a> {
 }
 
 fn fields_of(front: &[u8]) -> Fields<'_>
-    requires { length front.now ≡ 13 }
+    requires { length front.now ≡ head_size }
     ensures mark { length result.mark.now ≡ 8 }
     ensures fields { front.now ≡ result.mark.now ++ (big_endian 4 result.sectors ++ result.clients ∷ []) }
 {
@@ -70,7 +74,7 @@ fn fields_of(front: &[u8]) -> Fields<'_>
 
 /// Whether a head begins with these.
 fn is_head(found: &[u8], sectors: u32) -> bool
-    ensures { IsTrue result ↔ (found.now ≡ mark) × (sectors ≡ 2596) }
+    ensures { IsTrue result ↔ (found.now ≡ mark) × (sectors ≡ limits.sectors) }
 {
     found == b"CALYPSO1".as_slice() && sectors == SECTORS
 }
@@ -78,7 +82,7 @@ fn is_head(found: &[u8], sectors: u32) -> bool
 /// Writes the one head that spells so many clients, 1 to 16.
 pub fn write_head(clients: u8, into: &mut Sector)
     requires some { 1 ≤ clients }
-    requires few { clients ≤ 16 }
+    requires few { clients ≤ limits.clients }
     ensures { SpellsHead into.new clients }
 {
     let mut fields = SectorFields::new();

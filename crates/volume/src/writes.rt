@@ -1,31 +1,17 @@
 ghost use Rattle.std.specs.Prelude.{◌≡◌, ◌≤◌, ◌<◌, ◌+◌, ◌∷◌, []};
+ghost use Rattle.cal_base.specs.Limits as limits;
 ghost use Rattle.fence.specs.Writes.{Runs};
 ghost use Rattle.inode.specs.Inode.{IsInode};
-ghost use Rattle.volume.specs.Format.{blank, format_writes, free_writes, head_sector, inode_writes, root_inode, root_sector, to_each};
+ghost use Rattle.volume.specs.Format.{blank, format_length, format_writes, free_writes, head_sector, inode_writes, root_inode, root_sector, to_each};
 
 use crate::head::write_head;
-use cal_base::Sector;
+use cal_base::{BLOCK_SIZE, FILE_BLOCKS, LAST_INODE, Sector};
 use fence::{Port, PortHalt};
 use inode::{Inode, Kind, write_inode};
-use shared_disk::PortDisk;
-
-/// The sector of the head.
-const HEAD: u32 = 0;
-
-/// The sector of the gate.
-const GATE: u32 = 1;
-
-/// The sector of the map. The slots of 16 clients stand behind it.
-const MAP: u32 = 19;
+use shared_disk::{AT_GATE, AT_HEAD, AT_MAP, FIRST_INODE, PortDisk};
 
 /// Sectors of the map and the slots.
 const MAP_AND_SLOTS: u32 = 17;
-
-/// The sector of the root's inode. Those of the other inodes stand behind it.
-const ROOT: u32 = 36;
-
-/// Inodes other than the root.
-const FREE_INODES: u32 = 511;
 
 /// Writes a volume on which nothing has happened yet.
 pub(crate) fn write_volume<D: PortDisk>(
@@ -34,14 +20,14 @@ pub(crate) fn write_volume<D: PortDisk>(
     clients: u8,
 ) -> Result<(), PortHalt>
     requires some { 1 ≤ clients }
-    requires few { clients ≤ 16 }
-    requires room { 531 ≤ (D.means disk.old).room }
+    requires few { clients ≤ limits.clients }
+    requires room { format_length ≤ (D.means disk.old).room }
     ensures { Runs port.old (D.means disk.old) (D.fault_count disk.old) (format_writes clients) result port.new (D.means disk.new) (D.fault_count disk.new) }
 {
     write_free(port, disk)?;
     write_inodes(port, disk)?;
     let head = head_with(clients);
-    write_one(port, disk, HEAD, &head)
+    write_one(port, disk, AT_HEAD, &head)
 }
 
 /// Writes one sector.
@@ -51,7 +37,7 @@ fn write_one<D: PortDisk>(
     sector: u32,
     from: &Sector,
 ) -> Result<(), PortHalt>
-    requires within { sector < 2596 }
+    requires within { sector < limits.sectors }
     requires room { 0 < (D.means disk.old).room }
     ensures { Runs port.old (D.means disk.old) (D.fault_count disk.old) ((sector, from.now) ∷ []) result port.new (D.means disk.new) (D.fault_count disk.new) }
 {
@@ -66,7 +52,7 @@ fn write_each<D: PortDisk>(
     count: u32,
     from: &Sector,
 ) -> Result<(), PortHalt>
-    requires within { first + count ≤ 2596 }
+    requires within { first + count ≤ limits.sectors }
     requires room { count ≤ (D.means disk.old).room }
     ensures { Runs port.old (D.means disk.old) (D.fault_count disk.old) (to_each count first from.now) result port.new (D.means disk.new) (D.fault_count disk.new) }
 {
@@ -78,30 +64,30 @@ fn write_each<D: PortDisk>(
 
 /// Writes the closed gate, the map of free blocks and the slots of clients that made no change.
 fn write_free<D: PortDisk>(port: &mut Port, disk: &mut D) -> Result<(), PortHalt>
-    requires { 18 ≤ (D.means disk.old).room }
+    requires { limits.clients + 2 ≤ (D.means disk.old).room }
     ensures { Runs port.old (D.means disk.old) (D.fault_count disk.old) free_writes result port.new (D.means disk.new) (D.fault_count disk.new) }
 {
     let blank = blank_sector();
-    write_one(port, disk, GATE, &blank)?;
-    write_each(port, disk, MAP, MAP_AND_SLOTS, &blank)
+    write_one(port, disk, AT_GATE, &blank)?;
+    write_each(port, disk, AT_MAP, MAP_AND_SLOTS, &blank)
 }
 
 /// Writes the root and the free inodes.
 fn write_inodes<D: PortDisk>(port: &mut Port, disk: &mut D) -> Result<(), PortHalt>
-    requires { 512 ≤ (D.means disk.old).room }
+    requires { limits.inodes ≤ (D.means disk.old).room }
     ensures { Runs port.old (D.means disk.old) (D.fault_count disk.old) inode_writes result port.new (D.means disk.new) (D.fault_count disk.new) }
 {
     let root = first_root();
     let blank = blank_sector();
-    write_one(port, disk, ROOT, &root)?;
-    write_each(port, disk, ROOT + 1, FREE_INODES, &blank)
+    write_one(port, disk, FIRST_INODE, &root)?;
+    write_each(port, disk, FIRST_INODE + 1, LAST_INODE, &blank)
 }
 
 /// A sector of zeros.
 fn blank_sector() -> Sector
     ensures { result ≡ blank }
 {
-    [0; 4096]
+    [0; BLOCK_SIZE]
 }
 
 /// The inode of a root directory without entries.
@@ -121,14 +107,14 @@ fn empty_root() -> Inode
         kind: Kind::Dir,
         named: true,
         size: 0,
-        blocks: [0; 64],
+        blocks: [0; FILE_BLOCKS],
     }
 }
 
 /// The head of a volume for so many clients.
 fn head_with(clients: u8) -> Sector
     requires some { 1 ≤ clients }
-    requires few { clients ≤ 16 }
+    requires few { clients ≤ limits.clients }
     ensures { result ≡ head_sector clients }
 {
     let mut sector = blank_sector();

@@ -1,4 +1,5 @@
 use Rattle.std.specs.Prelude.{◌≡◌, ◌≤◌, ◌<◌, ℕ, zero, suc, Bool, true, false, if◌then◌else◌, min, List, [], ◌∷◌, ◌++◌, length}
+use Rattle.cal_base.specs.Limits.{file_blocks, file_size, unflushed_blocks}
 use Rattle.cal_base.specs.declared.identity.Ino.{Ino}
 use Rattle.token_kind.specs.declared.flush.Flush.{Flush}
 use Rattle.token_kind.specs.declared.hold.Hold.{Hold}
@@ -48,7 +49,7 @@ pieces_below contents marks (suc n) = with_piece (pieces_below contents marks n)
 
 -- the marked blocks of a file
 abbrev pub pieces_of : Delayed → List (ℕ × List ℕ)
-pieces_of d = pieces_below d.contents d.marks 64
+pieces_of d = pieces_below d.contents d.marks file_blocks
 
 -- the flush of a file: its size, its cut and its marked blocks
 abbrev pub flush_of : Delayed → Ino → Hold → Hold → ℕ → Flush
@@ -69,9 +70,9 @@ pub record Turns (kept : List ℕ) (d : Delayed) : Type 0 where
 -- what stands of a file at all times: its size is within the limit, no mark is past its end, at most 16
 -- blocks are marked, and where nothing is unflushed nothing is marked or cut
 pub record IsDelayed (d : Delayed) : Type 0 where
-  pub size : length d.contents ≤ 262144
-  pub marks : length d.marks ≡ 64
+  pub size : length d.contents ≤ file_size
+  pub marks : length d.marks ≡ file_blocks
   pub cut : d.cut ≤ length d.contents
   pub below : (index : ℕ) → is_marked d.marks index ≡ true → index < block_count (length d.contents)
-  pub few : marked_count d.marks ≤ 16
+  pub few : marked_count d.marks ≤ unflushed_blocks
   pub idle : d.unflushed ≡ false → d ≡ clean d.contents

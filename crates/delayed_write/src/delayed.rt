@@ -1,4 +1,5 @@
 ghost use Rattle.std.specs.Prelude.{◌≡◌, ◌≤◌, ◌<◌, ◌+◌, ℕ, List, false, IfOk, OnOk, OnErr, length};
+ghost use Rattle.cal_base.specs.Limits.{file_size, inodes, unflushed_blocks};
 ghost use Rattle.token_kind.specs.Flush.{IsFlush, IsFlushed};
 ghost use Rattle.token_kind.specs.Hold.{hold_number};
 ghost use Rattle.file_bytes.specs.Bytes.{read_at};
@@ -35,7 +36,7 @@ impl Model for Delayed {
 impl Delayed {
     /// A file with these contents, as the server keeps them: nothing is unflushed. It takes no memory.
     pub fn new(kept: Blob) -> Delayed
-        requires { length kept ≤ 262144 }
+        requires { length kept ≤ file_size }
         ensures value { result ≡ clean kept }
         ensures turns { Turns kept result }
     {
@@ -52,7 +53,7 @@ impl Delayed {
     /// The size of the file in bytes, at most 262,144.
     pub fn size(&self) -> u32
         ensures value { result ≡ length self.now.contents }
-        ensures limit { result ≤ 262144 }
+        ensures limit { result ≤ file_size }
     {
         self.contents.len() as u32
     }
@@ -83,8 +84,8 @@ impl Delayed {
     pub fn write(&mut self, offset: u32, bytes: &[u8]) -> Result<(), Oom>
         requires some { 1 ≤ length bytes.now }
         requires few { length bytes.now ≤ 32768 }
-        requires end { offset + length bytes.now ≤ 262144 }
-        requires marks { marked_count (marked_by_write self.old.marks offset (length bytes.now)) ≤ 16 }
+        requires end { offset + length bytes.now ≤ file_size }
+        requires marks { marked_count (marked_by_write self.old.marks offset (length bytes.now)) ≤ unflushed_blocks }
         ensures ok { OnOk result (self.new ≡ after_write self.old offset bytes.now) }
         ensures limits { OnOk result (IsDelayed self.new) }
         ensures turns { OnOk result ((kept : List ℕ) → Turns kept self.old → Turns kept self.new) }
@@ -99,8 +100,8 @@ impl Delayed {
     /// Sets the size: the file is cut off, or grows by zeros. The size is within the limit of a file, and
     /// at most 16 blocks are left marked. After want of memory all is as it was.
     pub fn truncate(&mut self, size: u32) -> Result<(), Oom>
-        requires size { size ≤ 262144 }
-        requires marks { marked_count (marked_by_truncate self.old.marks (length self.old.contents) size) ≤ 16 }
+        requires size { size ≤ file_size }
+        requires marks { marked_count (marked_by_truncate self.old.marks (length self.old.contents) size) ≤ unflushed_blocks }
         ensures ok { OnOk result (self.new ≡ after_truncate self.old size) }
         ensures limits { OnOk result (IsDelayed self.new) }
         ensures turns { OnOk result ((kept : List ℕ) → Turns kept self.old → Turns kept self.new) }
@@ -117,7 +118,7 @@ impl Delayed {
     /// How many blocks are marked after a write of so many bytes at an offset.
     pub fn blocks_after(&self, offset: u32, len: u32) -> u8
         requires few { len ≤ 32768 }
-        requires end { offset + len ≤ 262144 }
+        requires end { offset + len ≤ file_size }
         ensures { result ≡ marked_count (marked_by_write self.now.marks offset len) }
     {
         let mut after = self.marks;
@@ -127,7 +128,7 @@ impl Delayed {
 
     /// How many blocks are marked after a truncate to a size.
     pub fn blocks_after_truncate(&self, size: u32) -> u8
-        requires { size ≤ 262144 }
+        requires { size ≤ file_size }
         ensures { result ≡ marked_count (marked_by_truncate self.now.marks (length self.now.contents) size) }
     {
         let mut left = self.marks;
@@ -145,7 +146,7 @@ impl Delayed {
         number: u64,
     ) -> Result<Flush, Oom>
         requires number { 1 ≤ number }
-        requires ino { ino.0 < 512 }
+        requires ino { ino.0 < inodes }
         requires leave_data { hold_number leave_data ≤ 1 }
         requires leave_attr { hold_number leave_attr ≤ 1 }
         ensures value { IfOk result (λ flush. flush ≡ flush_of self.now ino leave_data leave_attr number) }

@@ -1,4 +1,5 @@
 ghost use Rattle.std.specs.Prelude.{◌≡◌, ◌<◌, IfOk, OnOk};
+ghost use Rattle.cal_base.specs.Limits.{file_blocks};
 ghost use Rattle.delayed_write.specs.Delayed.{pieces_below, with_piece};
 
 use cal_base::{FILE_BLOCKS, Oom, Sector};
@@ -13,7 +14,7 @@ pub(crate) fn pieces(
     marks: &[bool; FILE_BLOCKS],
     count: u8,
 ) -> Result<PieceList, Oom>
-    ensures { IfOk result (λ pieces. pieces ≡ pieces_below contents.now marks.now 64) }
+    ensures { IfOk result (λ pieces. pieces ≡ pieces_below contents.now marks.now file_blocks) }
 {
     let mut pieces = Vec::with_capacity(alloc, usize::from(count))?;
     for index in 0..FILE_BLOCKS as u8 {
@@ -29,7 +30,7 @@ fn put_piece(
     marks: &[bool; FILE_BLOCKS],
     index: u8,
 ) -> Result<(), Oom>
-    requires { index < 64 }
+    requires { index < file_blocks }
     ensures { OnOk result (pieces.new.items ≡ with_piece pieces.old.items contents.now marks.now index) }
 {
     let place = usize::from(index);

@@ -18,6 +18,7 @@ use Rattle.delayed_write.specs.Delayed.{Delayed, IsDelayed, clean}
 use Rattle.delayed_write.proofs.TurnLemmas.{clean_is}
 use Rattle.token_kind.specs.Flush.{IsFlush}
 use Rattle.token_kind.specs.Hold.{hold_number, lesser_of}
+use Rattle.token_kind.specs.Token.{may_hold}
 use Rattle.token_kind.specs.declared.«class».Class.{Class}
 use Rattle.token_kind.specs.declared.«class».Class.TheVariants.{Names, Data, Attr, Open}
 use Rattle.token_kind.specs.declared.content.Content.{Content}
@@ -30,7 +31,7 @@ use Rattle.tree_law.specs.declared.descriptor.Descriptor.{Descriptor}
 use Rattle.client_cache.specs.declared.cached_inode.CachedInode.{CachedInode}
 use Rattle.client_cache.specs.declared.flushes.Left.{Left}
 use Rattle.client_cache.specs.AfterAnswer.{with_descriptor, with_file}
-use Rattle.client_cache.specs.Changes.{IsContent, IsHoldOf, after_lower, after_start, after_take, cleaned, flush_left, flush_numbered, flushed_inode, forgotten, granted, holding, is_numbered, leaving, left_of, left_with, lowered, raised, with_content}
+use Rattle.client_cache.specs.Changes.{IsContent, after_lower, after_start, after_take, cleaned, flush_left, flush_numbered, flushed_inode, forgotten, granted, holding, is_numbered, leaving, left_of, left_with, lowered, raised, with_content}
 use Rattle.client_cache.specs.Holds.{hold_in, is_held}
 use Rattle.client_cache.specs.IsKnown.{IsCached, IsKnown, IsLater, IsOpenFile, IsPlace}
 use Rattle.client_cache.specs.Known.{Known, first_known, flush_at, inode_at, is_flush_of, is_settled, known_if, nothing_known, part_of}
@@ -41,6 +42,23 @@ clean_cached bytes within = clean_is (clean bytes) within refl
 
 none_listed : AreEntries []
 none_listed = record { names = All-nil _; order = none_ascend; inodes = All-nil _ }
+
+-- what a hold of a class is by its number
+abbrev pub IsHoldOf : Class → Hold → Type 0
+IsHoldOf Names hold = hold_number hold ≤ 1
+IsHoldOf Data hold = Unit {0}
+IsHoldOf Attr hold = Unit {0}
+IsHoldOf Open hold = hold_number hold ≤ 1
+
+is_hold_of : (cls : Class) (hold : Hold) → may_hold cls hold ≡ true → IsHoldOf cls hold
+is_hold_of Names Nothing may = omega arith
+is_hold_of Names Read may = omega arith
+is_hold_of Names Write may = absurd (true≢false (sym may))
+is_hold_of Data hold may = tt
+is_hold_of Attr hold may = tt
+is_hold_of Open Nothing may = omega arith
+is_hold_of Open Read may = omega arith
+is_hold_of Open Write may = absurd (true≢false (sym may))
 
 held_cached : (cls : Class) (hold : Hold) (inode : CachedInode) → IsHoldOf cls hold → IsCached inode → IsCached (holding inode cls hold)
 held_cached Names hold inode may is = record { names = may; «open» = is.«open»; entries = is.entries; file = is.file; size = is.size }
@@ -314,14 +332,14 @@ lowered_cached cls to old new e is =
 
 -- an item is taken, step by step
 pub take_steps : (known : Known) (item : GrantItem) (old new : CachedInode) (left : Hold) (flushes : List Flush) → item.ino.0 < 512 → old ≡ get_or known.inodes item.ino.0 old
-    → new ≡ granted old item.«class» item.hold item.content → left ≡ lesser_of item.hold Read → flushes ≡ map (raised item.ino item.«class» left) known.flushes → IsHoldOf item.«class» item.hold
+    → new ≡ granted old item.«class» item.hold item.content → left ≡ lesser_of item.hold Read → flushes ≡ map (raised item.ino item.«class» left) known.flushes → may_hold item.«class» item.hold ≡ true
     → IsContent item.content → IsKnown known → IsKnown (record { inodes = slice_set known.inodes item.ino.0 new; table = known.table; flushes = flushes; last_flush = known.last_flush })
 take_steps known item old new left flushes below stands made lesser raised_all may content is =
     let low : hold_number left ≤ 1 = subst (λ (hold : Hold). hold_number hold ≤ 1) (sym lesser) (at_most_read item.hold) in
     let raised_known : IsKnown (record { inodes = known.inodes; table = known.table; flushes = flushes; last_flush = known.last_flush })
     = subst (λ (fs : List Flush). IsKnown (record { inodes = known.inodes; table = known.table; flushes = fs; last_flush = known.last_flush })) (sym raised_all) (raise_known known item.ino item.«class» left low is) in
     put_changed (record { inodes = known.inodes; table = known.table; flushes = flushes; last_flush = known.last_flush }) item.ino.0 old new below stands
-    (λ was. subst (λ (inode : CachedInode). IsCached inode) (sym made) (held_cached item.«class» item.hold (with_content old item.content) may (content_cached item.content old content was))) raised_known
+    (λ was. subst (λ (inode : CachedInode). IsCached inode) (sym made) (held_cached item.«class» item.hold (with_content old item.content) (is_hold_of item.«class» item.hold may) (content_cached item.content old content was))) raised_known
 
 -- a flush is dropped, and the holds are what it left, step by step
 pub left_steps : (known : Known) (number : ℕ) (left : Left) (old new : CachedInode) (flushes : List Flush) → left.ino.0 < 512 → old ≡ get_or known.inodes left.ino.0 old

@@ -1,6 +1,7 @@
 pub mod Answerable
 pub mod FollowLemmas
 pub mod KnownLemmas
+pub mod Listed
 pub mod NameOrder
 pub mod NextLemmas
 pub mod Reported

@@ -1,8 +1,9 @@
 -- What a grant, a lowering and a flush make of what a client knows.
 use Rattle.std.specs.Prelude.{◌+◌, ◌++◌, ◌∷◌, ◌≤◌, ℕ, Bool, true, ⊤, not, nat_eq, find, filter, map, length, [], Option, Some, None, slice_set, if◌then◌else◌}
+use Rattle.cal_base.specs.Limits.{file_size}
 use Rattle.cal_base.specs.declared.identity.Ino.{Ino}
 use Rattle.delayed_write.specs.Delayed.{clean, flush_of}
-use Rattle.token_kind.specs.Hold.{hold_number, lesser_of}
+use Rattle.token_kind.specs.Hold.{lesser_of}
 use Rattle.token_kind.specs.declared.«class».Class.{Class}
 use Rattle.token_kind.specs.declared.«class».Class.TheVariants.{Names, Data, Attr, Open}
 use Rattle.token_kind.specs.declared.content.Content.{Content}
@@ -56,15 +57,8 @@ after_take known item = record {
 abbrev pub IsContent : Content → Type 0
 IsContent Empty = ⊤
 IsContent (Entries entries) = AreEntries entries
-IsContent (Bytes bytes) = length bytes ≤ 262144
-IsContent (Size size) = size ≤ 262144
-
--- a hold that a class can have: Write of Data and Attr alone
-abbrev pub IsHoldOf : Class → Hold → Type 0
-IsHoldOf Names hold = hold_number hold ≤ 1
-IsHoldOf Data hold = ⊤
-IsHoldOf Attr hold = ⊤
-IsHoldOf Open hold = hold_number hold ≤ 1
+IsContent (Bytes bytes) = length bytes ≤ file_size
+IsContent (Size size) = size ≤ file_size
 
 -- without content come Open, and classes in which something is held
 abbrev pub is_expected : CachedInode → Class → Content → Bool

@@ -1,6 +1,7 @@
 -- Which calls a client answers by itself.
 use Rattle.std.specs.Prelude.{◌≤◌, ◌+◌, ◌||◌, ◌&&◌, ℕ, Bool, true, false, ⊤, not, nat_eq, nat_le, nat_lt, List, length, count_by, Option, Some, None, Result, Ok, Err}
 use Rattle.std.specs.List.{list_all}
+use Rattle.cal_base.specs.Limits.{unflushed_blocks}
 use Rattle.cal_base.specs.declared.directory_entry.EntryKind.{EntryKind}
 use Rattle.cal_base.specs.declared.directory_entry.EntryKind.TheVariants.{File as IsFile, Directory as IsDirectory}
 use Rattle.cal_base.specs.declared.identity.Ino.{Ino}
@@ -33,9 +34,9 @@ is_end_met met needs None = false
 is_end_met met needs (Some (Err why)) = true
 is_end_met met needs (Some (Ok place)) = list_all met (needs place.0 place.1)
 
--- of a file at most 16 blocks are marked after a write or truncate that isn't refused
+-- of a file no more blocks are marked than may be unflushed, after a write or truncate that isn't refused
 abbrev pub is_few : Known → Result Ino Why → (Delayed → List Bool) → Bool
-is_few known (Ok ino) marks = nat_le (marked_count (marks (inode_at known ino).file)) 16
+is_few known (Ok ino) marks = nat_le (marked_count (marks (inode_at known ino).file)) unflushed_blocks
 is_few known (Err why) marks = true
 
 abbrev pub write_room : Known → ℕ → ℕ → Result Ino Why → Bool
@@ -57,7 +58,7 @@ is_synced known (Err why) = true
 -- whether a client that needs these tokens for a call answers it by itself. A change of the tree is never
 -- covered; `close` where it is EBADF or another descriptor stays for the file; `fsync` where it is EBADF or
 -- nothing of the file is unflushed or under way; every other call where its needs are held, no flush is
--- outstanding of a file whose Data or Attr it needs, and at most 16 blocks of a file are unflushed after it
+-- outstanding of a file whose Data or Attr it needs, and no more blocks of a file are unflushed after it than may be
 abbrev pub covered_by : Known → List Need → Call → Bool
 covered_by known needs (Create path) = false
 covered_by known needs (Mkdir path) = false

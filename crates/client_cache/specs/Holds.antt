@@ -1,6 +1,7 @@
 -- What a client holds of one inode, by class.
 use Rattle.std.specs.Prelude.{ℕ, Bool, true, false, nat_eq, if◌then◌else◌}
 use Rattle.token_kind.specs.Hold.{hold_number}
+pub use Rattle.token_kind.specs.Hold.{is_held}
 use Rattle.token_kind.specs.declared.«class».Class.{Class}
 use Rattle.token_kind.specs.declared.«class».Class.TheVariants.{Names, Data, Attr, Open}
 use Rattle.token_kind.specs.declared.hold.Hold.{Hold}
@@ -24,12 +25,6 @@ with_hold holds Open hold = record { names = holds.names; contents = holds.conte
 -- nothing is held
 abbrev pub no_holds : Holds
 no_holds = record { names = Nothing; contents = Nothing; attr = Nothing; «open» = Nothing }
-
--- something is held
-abbrev pub is_held : Hold → Bool
-is_held Nothing = false
-is_held Read = true
-is_held Write = true
 
 -- the number of the hold in the class with a number: 1 Names, 2 Data, 3 Attr, 4 Open
 abbrev pub held_number : Holds → ℕ → ℕ

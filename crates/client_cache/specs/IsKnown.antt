@@ -1,6 +1,7 @@
 -- What stands at all times of what a client knows.
 use Rattle.std.specs.Prelude.{◌≡◌, ◌≢◌, ◌<◌, ◌≤◌, ◌^◌, ⊤, All, length, Option, Some, None, Result, Ok, Err}
 use Rattle.std.specs.List.{AllPairs}
+use Rattle.cal_base.specs.Limits.{descriptors, file_size, inodes}
 use Rattle.delayed_write.specs.Delayed.{IsDelayed}
 use Rattle.token_kind.specs.Flush.{IsFlush}
 use Rattle.token_kind.specs.Hold.{hold_number}
@@ -19,16 +20,16 @@ pub record IsCached (inode : CachedInode) : Type 0 where
   pub «open» : hold_number inode.holds.«open» ≤ 1
   pub entries : AreEntries inode.entries
   pub file : IsDelayed inode.file
-  pub size : inode.size ≤ 262144
+  pub size : inode.size ≤ file_size
 
 -- a descriptor that is open stands for an inode of the volume
 abbrev pub IsOpenFile : Option Descriptor → Type 0
-IsOpenFile (Some descriptor) = descriptor.ino.0 < 512
+IsOpenFile (Some descriptor) = descriptor.ino.0 < inodes
 IsOpenFile None = ⊤
 
 -- resolving ends at an inode of the volume, or nowhere
 abbrev pub IsPlace : Option (Result Place Why) → Type 0
-IsPlace (Some (Ok place)) = place.0.0 < 512
+IsPlace (Some (Ok place)) = place.0.0 < inodes
 IsPlace (Some (Err why)) = ⊤
 IsPlace None = ⊤
 
@@ -40,8 +41,8 @@ pub record IsLater (flush later : Flush) : Type 0 where
 -- there are 512 inodes and 32 descriptors; each outstanding flush is one, they stand in the order of their
 -- numbers, at most one of a file, and none was started after the last
 pub record IsKnown (known : Known) : Type 0 where
-  pub inodes : length known.inodes ≡ 512
-  pub table : length known.table ≡ 32
+  pub inodes : length known.inodes ≡ inodes
+  pub table : length known.table ≡ descriptors
   pub cached : All IsCached known.inodes
   pub open_files : All IsOpenFile known.table
   pub flushes : All IsFlush known.flushes

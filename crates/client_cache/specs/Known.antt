@@ -1,5 +1,6 @@
 -- What a client knows and may answer from.
 use Rattle.std.specs.Prelude.{ℕ, Bool, true, false, ◌&&◌, nat_eq, find, is_none, List, [], Option, Some, None, slice_index_or, replicate}
+use Rattle.cal_base.specs.Limits.{inodes}
 use Rattle.cal_base.specs.declared.identity.Ino.{Ino}
 use Rattle.delayed_write.specs.Delayed.{clean}
 use Rattle.token_kind.specs.declared.flush.Flush.{Flush}
@@ -23,7 +24,7 @@ nothing_known = record { holds = no_holds; entries = []; file = clean []; size =
 
 -- what a client knows at first: it holds nothing, has no descriptor in use, and has made no flush
 unfoldable pub first_known : Known
-first_known = record { inodes = replicate 512 nothing_known; table = no_descriptors; flushes = []; last_flush = 0 }
+first_known = record { inodes = replicate inodes nothing_known; table = no_descriptors; flushes = []; last_flush = 0 }
 
 abbrev pub inode_at : Known → Ino → CachedInode
 inode_at known ino = slice_index_or known.inodes ino.0 nothing_known

@@ -1,4 +1,5 @@
 ghost use Rattle.std.specs.Prelude.{◌≡◌, ◌≤◌, ◌+◌, true, Some, None, Ok, IfOk, OnOk, OnErr, length, map};
+ghost use Rattle.cal_base.specs.Limits.{file_size, unflushed_blocks};
 ghost use Rattle.delayed_write.specs.Delayed.{after_truncate, after_write};
 ghost use Rattle.delayed_write.specs.Marks.{marked_by_truncate, marked_by_write, marked_count};
 ghost use Rattle.tree_law.specs.Answer.{counted, made};
@@ -224,8 +225,8 @@ impl Cache {
     fn write_file(&mut self, ino: Ino, offset: u32, bytes: &[u8]) -> Result<(), Oom>
         requires some { 1 ≤ length bytes.now }
         requires few { length bytes.now ≤ 32768 }
-        requires end { offset + length bytes.now ≤ 262144 }
-        requires marks { marked_count (marked_by_write (inode_at self.old ino).file.marks offset (length bytes.now)) ≤ 16 }
+        requires end { offset + length bytes.now ≤ file_size }
+        requires marks { marked_count (marked_by_write (inode_at self.old ino).file.marks offset (length bytes.now)) ≤ unflushed_blocks }
         ensures ok { OnOk result (self.new ≡ with_change self.old (λ file. after_write file offset bytes.now) (Ok ino)) }
         ensures err { OnErr result (self.new ≡ self.old) }
     {
@@ -251,8 +252,8 @@ impl Cache {
     }
 
     fn truncate_file(&mut self, ino: Ino, size: u32) -> Result<(), Oom>
-        requires size { size ≤ 262144 }
-        requires marks { marked_count (marked_by_truncate (inode_at self.old ino).file.marks (length (inode_at self.old ino).file.contents) size) ≤ 16 }
+        requires size { size ≤ file_size }
+        requires marks { marked_count (marked_by_truncate (inode_at self.old ino).file.marks (length (inode_at self.old ino).file.contents) size) ≤ unflushed_blocks }
         ensures ok { OnOk result (self.new ≡ with_change self.old (λ file. after_truncate file size) (Ok ino)) }
         ensures err { OnErr result (self.new ≡ self.old) }
     {
@@ -278,8 +279,8 @@ impl CachedInode {
     fn write(&mut self, offset: u32, bytes: &[u8]) -> Result<(), Oom>
         requires some { 1 ≤ length bytes.now }
         requires few { length bytes.now ≤ 32768 }
-        requires end { offset + length bytes.now ≤ 262144 }
-        requires marks { marked_count (marked_by_write self.old.file.marks offset (length bytes.now)) ≤ 16 }
+        requires end { offset + length bytes.now ≤ file_size }
+        requires marks { marked_count (marked_by_write self.old.file.marks offset (length bytes.now)) ≤ unflushed_blocks }
         ensures ok { OnOk result (self.new ≡ with_file self.old (after_write self.old.file offset bytes.now)) }
         ensures cached { IsCached self.old → IsCached self.new }
         ensures err { OnErr result (self.new ≡ self.old) }
@@ -292,8 +293,8 @@ impl CachedInode {
     /// Sets the size of the file in bytes.
     #[tactic(auto, using(crate::proofs::KnownLemmas::written_cached))]
     fn truncate(&mut self, size: u32) -> Result<(), Oom>
-        requires size { size ≤ 262144 }
-        requires marks { marked_count (marked_by_truncate self.old.file.marks (length self.old.file.contents) size) ≤ 16 }
+        requires size { size ≤ file_size }
+        requires marks { marked_count (marked_by_truncate self.old.file.marks (length self.old.file.contents) size) ≤ unflushed_blocks }
         ensures ok { OnOk result (self.new ≡ with_file self.old (after_truncate self.old.file size)) }
         ensures cached { IsCached self.old → IsCached self.new }
         ensures err { OnErr result (self.new ≡ self.old) }

@@ -1,8 +1,10 @@
 ghost use Rattle.std.specs.Prelude.{◌≡◌, ◌<◌, ◌≤◌, IfOk, IfSome, OnOk, OnErr, List, [], Option, Some, None, true, false, not, map, replicate, option_map, slice_index_or};
+ghost use Rattle.cal_base.specs.Limits.{inodes};
 ghost use Rattle.client_cache.specs.Holds.{hold_in};
 ghost use Rattle.client_cache.specs.IsKnown.{IsKnown, IsOpenFile};
 ghost use Rattle.client_cache.specs.Known.{first_known, flush_at, inode_at, is_settled, nothing_known};
-ghost use Rattle.client_cache.specs.Changes.{IsContent, IsHoldOf, after_lower, after_take, is_expected, leaving, raised};
+ghost use Rattle.client_cache.specs.Changes.{IsContent, after_lower, after_take, is_expected, leaving, raised};
+ghost use Rattle.token_kind.specs.Token.{may_hold};
 
 use crate::cached_inode::CachedInode;
 use cal_base::{DESCRIPTORS, INODES, Ino, Oom};
@@ -86,7 +88,7 @@ impl Cache {
     /// The file behind a descriptor; none exactly where that isn't open.
     pub fn behind(&self, fd: u8) -> Option<Ino>
         ensures value { result ≡ option_map (λ descriptor. descriptor.ino) (slice_index_or self.now.table fd None) }
-        ensures bound { IfSome result (λ ino. ino.0 < 512) }
+        ensures bound { IfSome result (λ ino. ino.0 < inodes) }
     {
         match self.descriptor(fd) {
             Some(descriptor) => Some(descriptor.ino),
@@ -112,8 +114,8 @@ impl Cache {
     /// that come along are of the volume and strictly ascend by name. An item without content is of a class
     /// in which something is held, or of Open. It takes no memory.
     pub fn take(&mut self, item: GrantItem)
-        requires ino { item.ino.0 < 512 }
-        requires hold { IsHoldOf item.class item.hold }
+        requires ino { item.ino.0 < inodes }
+        requires hold { may_hold item.class item.hold ≡ true }
         requires content { IsContent item.content }
         requires expected { is_expected (inode_at self.old item.ino) item.class item.content ≡ true }
         ensures { self.new ≡ after_take self.old item }
@@ -143,7 +145,7 @@ impl Cache {
 
 /// The inodes of the volume, of none of which anything is known.
 fn unknown_inodes(alloc: Global) -> Result<Vec<CachedInode>, Oom>
-    ensures { IfOk result (λ inodes. inodes.items ≡ replicate 512 nothing_known) }
+    ensures { IfOk result (λ made. made.items ≡ replicate inodes nothing_known) }
 {
     let mut inodes = Vec::with_capacity(alloc, INODES)?;
     for _ in 0..INODES {

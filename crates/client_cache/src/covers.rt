@@ -1,4 +1,5 @@
 ghost use Rattle.std.specs.Prelude.{◌≡◌, ◌≤◌, ◌+◌, length, count_by};
+ghost use Rattle.cal_base.specs.Limits.{file_size};
 ghost use Rattle.token_kind.specs.Class.{class_number};
 ghost use Rattle.token_kind.specs.Hold.{hold_number};
 ghost use Rattle.tree_law.specs.Descriptors.{opened, readable, within_limit, writable};
@@ -165,7 +166,7 @@ impl Cache {
 
     fn blocks_after(&self, ino: Ino, offset: u32, len: u32) -> u8
         requires few { len ≤ 32768 }
-        requires end { offset + len ≤ 262144 }
+        requires end { offset + len ≤ file_size }
         ensures { result ≡ marked_count (marked_by_write (inode_at self.now ino).file.marks offset len) }
     {
         match self.inodes.get(ino.0 as usize) {
@@ -187,7 +188,7 @@ impl Cache {
     }
 
     fn blocks_after_truncate(&self, ino: Ino, size: u32) -> u8
-        requires { size ≤ 262144 }
+        requires { size ≤ file_size }
         ensures { result ≡ marked_count (marked_by_truncate (inode_at self.now ino).file.marks (length (inode_at self.now ino).file.contents) size) }
     {
         match self.inodes.get(ino.0 as usize) {

@@ -1,10 +1,11 @@
 ghost use Rattle.std.specs.Prelude.{◌≡◌, ◌≤◌, ◌<◌, ◌-◌, ◌^◌, ◌++◌, true, false, not, filter, find, option_map, IfOk, IfSome, OnOk, OnErr};
+ghost use Rattle.cal_base.specs.Limits.{inodes};
 ghost use Rattle.token_kind.specs.Flush.{IsFlush};
 ghost use Rattle.token_kind.specs.Hold.{hold_number};
 ghost use Rattle.client_cache.specs.Changes.{after_flushed, after_start, flush_left, flush_numbered, is_numbered, left_of, new_flush};
 ghost use Rattle.client_cache.specs.IsKnown.{IsKnown};
 ghost use Rattle.client_cache.specs.Known.{inode_at, is_settled};
-ghost use Rattle.client_cache.specs.Reports.{flush_leaves, flush_number, reported, reported_at, reported_below, reports};
+ghost use Rattle.client_cache.specs.Reports.{flush_leaves, flush_number, reported, reported_at, reported_below, reports, IsReport};
 
 use crate::cache::Cache;
 use crate::holds::is_held;
@@ -18,7 +19,7 @@ impl Cache {
     /// leaves may be raised, by a grant that is taken before it is done. Nothing of the file is unflushed
     /// any more. There are numbers for 2^64 - 1 flushes. After want of memory all is as it was.
     pub fn start_flush(&mut self, ino: Ino, leave_data: Hold, leave_attr: Hold) -> Result<(), Oom>
-        requires ino { ino.0 < 512 }
+        requires ino { ino.0 < inodes }
         requires number { self.old.last_flush < 2 ^ 64 - 1 }
         requires unflushed { (inode_at self.old ino).file.unflushed ≡ true }
         requires settled { is_settled self.old ino ≡ true }
@@ -60,7 +61,7 @@ impl Cache {
     /// changes. It takes no memory.
     pub fn flushed(&mut self, number: u64) -> Option<Ino>
         ensures file { result ≡ option_map (λ flush. flush.ino) (flush_numbered self.old number) }
-        ensures bound { IfSome result (λ ino. ino.0 < 512) }
+        ensures bound { IfSome result (λ ino. ino.0 < inodes) }
         ensures state { self.new ≡ after_flushed self.old number }
     {
         // An outstanding flush is of the volume: that is kept by the type, and told here.
@@ -96,7 +97,7 @@ impl Cache {
 
     /// Drops an outstanding flush, and makes the holds what it left.
     fn settle(&mut self, number: u64, left: Left)
-        requires { left.ino.0 < 512 }
+        requires { left.ino.0 < inodes }
         ensures { self.new ≡ flush_left self.old number left }
     {
         let alloc = *self.inodes.allocator();
@@ -104,9 +105,19 @@ impl Cache {
         self.inodes[left.ino.0 as usize].flushed(alloc, left.leave_data, left.leave_attr);
     }
 
-    /// All holds, by inode, then class. Data and Attr of a file with an outstanding flush are as they
-    /// were before it, with its number and what it leaves.
+    /// All holds, by inode, then class, at most 2,048, as a message spells each. Data and Attr of a file
+    /// with an outstanding flush are as they were before it, with its number and what it leaves.
     pub fn holds(&self) -> Result<ReportedList, Oom>
+        ensures value { IfOk result (λ holds. holds ≡ reports self.now) }
+        ensures report { IfOk result (IsReport self.now) }
+    {
+        // What stands at all times is kept by the type, and told here.
+        let _ = &self.flushes;
+        let holds = self.list_holds()?;
+        Ok(holds)
+    }
+
+    fn list_holds(&self) -> Result<ReportedList, Oom>
         ensures { IfOk result (λ holds. holds ≡ reports self.now) }
     {
         let mut holds = ReportedList::new(*self.inodes.allocator());

@@ -1,5 +1,6 @@
 ghost use Rattle.std.specs.Prelude.{◌≡◌, ◌+◌, ◌<◌, ◌≤◌, IfOk, IfSome, length, nat_lt, find, nat_eq, option_map, position, is_none, slice_index_or};
 ghost use Rattle.std.specs.Cmp.Lexicographic.{pointwise};
+ghost use Rattle.cal_base.specs.Limits.{file_size, inodes};
 ghost use Rattle.tree_law.specs.Descriptors.{opened, readable, reads, within_limit, writable, writes};
 ghost use Rattle.tree_law.specs.Part.{found_in, looked_up_in, place_of, resolved_in, root_place, stepped_in, walked_in};
 ghost use Rattle.tree_law.specs.Tree.{least_unused};
@@ -22,7 +23,7 @@ impl Cache {
     /// it ends at no file.
     pub fn target(&self, path: &Path) -> Option<Ino>
         ensures value { result ≡ target_of (resolved_in (part_of self.now) path.now) }
-        ensures bound { IfSome result (λ ino. ino.0 < 512) }
+        ensures bound { IfSome result (λ ino. ino.0 < inodes) }
     {
         match self.place(path.names()) {
             Some(Ok((ino, EntryKind::File))) => Some(ino),
@@ -138,7 +139,7 @@ impl Cache {
     /// The file that a write makes reach at least to this end, or EBADF or EFBIG.
     pub(crate) fn write_place(&self, fd: u8, offset: u64, len: usize) -> Result<Ino, Why>
         ensures value { result ≡ within_limit (offset + len) (writable self.now.table fd) }
-        ensures limit { IfOk result (λ _. offset + len ≤ 262144) }
+        ensures limit { IfOk result (λ _. offset + len ≤ file_size) }
     {
         match self.writable(fd) {
             Ok(ino) => {
@@ -155,7 +156,7 @@ impl Cache {
     /// The file that a truncate gives this size, or EBADF or EFBIG.
     pub(crate) fn truncate_place(&self, fd: u8, size: u64) -> Result<Ino, Why>
         ensures value { result ≡ within_limit size (writable self.now.table fd) }
-        ensures limit { IfOk result (λ _. size ≤ 262144) }
+        ensures limit { IfOk result (λ _. size ≤ file_size) }
     {
         match self.writable(fd) {
             Ok(ino) => {
@@ -200,7 +201,7 @@ fn found_in(entries: &Entries, name: &Blob) -> Result<(Ino, EntryKind), Why>
 
 /// Whether bytes from an offset on end past the limit of a file.
 fn is_past_limit(offset: u64, len: usize) -> bool
-    ensures { result ≡ nat_lt 262144 (offset + len) }
+    ensures { result ≡ nat_lt file_size (offset + len) }
 {
     offset > FILE_SIZE || len as u64 > FILE_SIZE - offset
 }

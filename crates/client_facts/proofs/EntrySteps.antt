@@ -1,18 +1,19 @@
 -- What is known goes on to follow the tree when a flush of the client comes to be in it.
-use Rattle.std.proofs.Common.{◌≡◌, ◌≢◌, ◌||◌, ◌≤◌, ◌<◌, ◌+◌, ℕ, Bool, true, false, nat_le, nat_lt, List, length, All, get_or, slice_set, if◌then◌else◌, Option, Some, None, refl, sym, ap, subst, ◌∙◌, arith, inl, inr}
+use Rattle.std.proofs.Common.{◌≡◌, ◌≢◌, ◌||◌, ◌≤◌, ◌<◌, ◌+◌, ◌∷◌, [], ℕ, zero, suc, Bool, true, false, nat_le, nat_lt, List, length, All, get_or, slice_set, if◌then◌else◌, Option, Some, None, refl, sym, ap, subst, ◌∙◌, arith, inl, inr}
 use Rattle.std.proofs.lemmas.Bool.{true≢false, cases_eq, cases_lt, eqb-true, eq-eqb, le-leb, lt-leb, lt-ltb, le-ltb}
 use Rattle.std.proofs.lemmas.List.{get_or-set_other, get_or-set_same, get_or_past, length-set}
+use Rattle.cal_base.specs.declared.directory_entry.DirectoryEntry.{DirectoryEntry}
 use Rattle.cal_base.specs.declared.identity.ClientId.{ClientId}
 use Rattle.cal_base.specs.declared.identity.Ino.{Ino}
 use Rattle.delayed_write.proofs.TurnLemmas.{clean_turns}
 use Rattle.delayed_write.specs.Delayed.{Turns, clean}
 use Rattle.token_kind.specs.declared.flush.Flush.{Flush}
 use Rattle.token_kind.specs.declared.hold.Hold.{Hold}
-use Rattle.tree_law.proofs.IdleLemmas.{node_of, swept_node, swept_node_above}
+use Rattle.tree_law.proofs.IdleLemmas.{node_of}
 use Rattle.tree_law.specs.After.{after, flushed_node}
 use Rattle.tree_law.specs.FileState.{FileState, flushed_file}
-use Rattle.tree_law.specs.Idle.{is_idle, swept, with_node}
-use Rattle.tree_law.specs.PartOf.{HasEntries}
+use Rattle.tree_law.specs.Idle.{with_node}
+use Rattle.tree_law.specs.PartOf.{HasEntries, kind_of}
 use Rattle.tree_law.specs.Tree.{Tree, node_at}
 use Rattle.tree_law.specs.declared.entry.Entry.TheVariants.{Flush as Flushed}
 use Rattle.tree_law.specs.declared.node.Node.{Node}
@@ -23,21 +24,10 @@ use Rattle.client_cache.specs.Follows.{Follows, FollowsFile, has_written}
 use Rattle.client_cache.specs.Holds.{is_held}
 use Rattle.client_cache.specs.IsKnown.{IsKnown}
 use Rattle.client_cache.specs.Known.{Known, flush_at, inode_at, is_flush_of}
-use Rattle.client_facts.specs.Leaves.{LeavesNames}
 use Rattle.client_facts.proofs.FileSteps.{entries_left}
+use Rattle.client_facts.proofs.SweptSteps.{swept_followed}
 use Rattle.client_facts.proofs.FlushSteps.{IsTheOne, find_same, found_is, found_passes, neither, one_of_file}
 use Rattle.client_cache.proofs.KnownLemmas.{cached_at}
-
--- a file that stands in the swept tree stood in the tree
-pub swept_stands : (tree : Tree) (k : ℕ) (node : Node) → node_of (swept tree) k ≡ Some node → node_of tree k ≡ Some node
-swept_stands tree k node e = elim (cases_lt k 512) [
-  | inl below ↦ by (is_idle tree k) (sym (swept_node tree 512 k below) ∙ e)
-  | inr above ↦ sym (swept_node_above tree 512 k above) ∙ e
-]
-  where
-    by : (b : Bool) → (if b then None else node_of tree k) ≡ Some node → node_of tree k ≡ Some node
-    by true e = absurd (cc)
-    by false e = e
 
 -- the flush of a file is in the tree
 file_flushed : (client : ClientId) (done : ℕ) (inode : CachedInode) (flush : Flush) (file : FileState) → (inode.file.unflushed ≡ false → inode.file ≡ clean inode.file.contents) → flush.number ≡ done + 1
@@ -127,18 +117,46 @@ here_stood tree ino node file at e P keeps = elim (cases_lt ino.0 (length tree.n
         same a b e = cc
     by None at e = absurd (cc)
 
-pub flush_followed : (tree : Tree) (client : ClientId) (done : ℕ) (known : Known) (flush : Flush) → IsKnown known → flush_numbered known flush.number ≡ Some flush → flush.number ≡ done + 1
-    → LeavesNames tree (after tree (Flushed client flush.ino)) client known → Follows tree client done known → Follows (after tree (Flushed client flush.ino)) client (done + 1) known
-flush_followed tree client done known flush is found next names f = record {
-  root_is = names.root_stays ∙ f.root_is;
-  table = f.table ∙ sym names.table;
-  open_files = λ fd descriptor e.
-      (let before = ap (λ table. get_or table fd None) (sym names.table) ∙ e in
-      names.open_files fd descriptor before ∙ f.open_files fd descriptor before);
-  entries = λ ino held. subst (λ (node : Option Node). HasEntries later node (inode_at known ino).entries) (sym (names.directories ino held))
-      (entries_left tree later (node_at tree ino) (inode_at known ino).entries (names.kinds ino held) (f.entries ino held));
-  files = λ other file e.
-      (let stands = swept_stands flushed other.0 (Regular file) e in
+flushed_here : (nodes : List (Option Node)) (m : ℕ) → get_or (slice_set nodes m (flushed_node (get_or nodes m None))) m None ≡ flushed_node (get_or nodes m None)
+flushed_here [] m = refl
+flushed_here (place ∷ nodes) zero = refl
+flushed_here (place ∷ nodes) (suc m) = flushed_here nodes m
+
+flushed_kind : (node : Option Node) → kind_of (flushed_node node) ≡ kind_of node
+flushed_kind (Some (Directory names)) = refl
+flushed_kind (Some (Regular file)) = refl
+flushed_kind None = refl
+
+flushed_entries : (tree : Tree) (node : Option Node) (entries : List DirectoryEntry) → HasEntries tree node entries → HasEntries tree (flushed_node node) entries
+flushed_entries tree (Some (Directory names)) entries has = has
+flushed_entries tree (Some (Regular file)) entries has = tt
+flushed_entries tree None entries has = tt
+
+flushed_kinds : (tree : Tree) (ino : Ino) (k : ℕ) → kind_of (node_of (with_node tree ino.0 (flushed_node (node_at tree ino))) k) ≡ kind_of (node_of tree k)
+flushed_kinds tree ino k = elim (cases_eq k ino.0) as (λ _. kind_of (node_of flushed k) ≡ kind_of (node_of tree k)) [
+  | inl same ↦ subst (λ (n : ℕ). kind_of (node_of flushed n) ≡ kind_of (node_of tree n)) (sym same) (ap kind_of (flushed_here tree.nodes ino.0) ∙ flushed_kind (node_at tree ino))
+  | inr apart ↦ ap kind_of (with_there tree ino (record { 0 = k }) (flushed_node (node_at tree ino)) apart)
+]
+  where
+    flushed : Tree
+    flushed = with_node tree ino.0 (flushed_node (node_at tree ino))
+
+-- what stands in the tree with the flush, before the idle files go, is followed
+written_followed : (tree : Tree) (client : ClientId) (done : ℕ) (known : Known) (flush : Flush) → IsKnown known → flush_numbered known flush.number ≡ Some flush → flush.number ≡ done + 1
+    → Follows tree client done known → Follows (with_node tree flush.ino.0 (flushed_node (node_at tree flush.ino))) client (done + 1) known
+written_followed tree client done known flush is found next f = record {
+  root_is = flushed_kinds tree flush.ino 0 ∙ f.root_is;
+  table = f.table;
+  open_files = λ fd descriptor e. flushed_kinds tree flush.ino descriptor.ino.0 ∙ f.open_files fd descriptor e;
+  entries = λ ino held. entries_left tree flushed (node_at flushed ino) (inode_at known ino).entries (λ i d within. flushed_kinds tree flush.ino (get_or (inode_at known ino).entries i d).ino.0)
+      (elim (cases_eq ino.0 flush.ino.0) as (λ _. HasEntries tree (node_at flushed ino) (inode_at known ino).entries) [
+        | inl same ↦ subst (λ (k : ℕ). HasEntries tree (node_of flushed k) (inode_at known (record { 0 = k })).entries) (sym same)
+            (subst (λ (node : Option Node). HasEntries tree node (inode_at known flush.ino).entries) (sym (flushed_here tree.nodes flush.ino.0))
+            (flushed_entries tree (node_at tree flush.ino) (inode_at known flush.ino).entries
+            (f.entries flush.ino (subst (λ (k : ℕ). is_held (inode_at known (record { 0 = k })).holds.names ≡ true) same held))))
+        | inr apart ↦ subst (λ (node : Option Node). HasEntries tree node (inode_at known ino).entries) (sym (with_there tree flush.ino ino (flushed_node (node_at tree flush.ino)) apart)) (f.entries ino held)
+      ]);
+  files = λ other file stands.
       elim (cases_eq other.0 flush.ino.0) as (λ _. FollowsFile client (done + 1) (inode_at known other) (flush_at known other) file) [
         | inl same ↦ subst (λ (k : ℕ). FollowsFile client (done + 1) (inode_at known (record { 0 = k })) (flush_at known (record { 0 = k })) file) (sym same)
             (here_stood tree flush.ino (node_at tree flush.ino) file refl (subst (λ (k : ℕ). node_at flushed (record { 0 = k }) ≡ Some (Regular file)) same stands)
@@ -148,12 +166,9 @@ flush_followed tree client done known flush is found next names f = record {
             (subst (λ (o : Option Flush). FollowsFile client done (inode_at known flush.ino) o before) its (f.files flush.ino before at)))))
         | inr apart ↦ other_flushed client done (inode_at known other) (flush_at known other) file (λ g at. not_next other apart g at)
             (f.files other file (sym (with_there tree flush.ino other (flushed_node (node_at tree flush.ino)) apart) ∙ stands))
-      ]);
+      ];
 }
   where
-    later : Tree
-    later = after tree (Flushed client flush.ino)
-
     flushed : Tree
     flushed = with_node tree flush.ino.0 (flushed_node (node_at tree flush.ino))
 
@@ -168,3 +183,8 @@ flush_followed tree client done known flush is found next names f = record {
         let mine : IsTheOne flush.number flush.ino g = found_is (is_flush_of other) (IsTheOne flush.number flush.ino) known.flushes g at one in
         let file : g.ino.0 ≡ flush.ino.0 = eqb-true g.ino.0 flush.ino.0 (sym mine ∙ eq-eqb g.number flush.number (same ∙ sym next)) in
         apart (sym (eqb-true g.ino.0 other.0 (found_passes (is_flush_of other) known.flushes g at)) ∙ file)
+
+pub flush_followed : (tree : Tree) (client : ClientId) (done : ℕ) (known : Known) (flush : Flush) → IsKnown known → flush_numbered known flush.number ≡ Some flush → flush.number ≡ done + 1
+    → Follows tree client done known → Follows (after tree (Flushed client flush.ino)) client (done + 1) known
+flush_followed tree client done known flush is found next f =
+    swept_followed (with_node tree flush.ino.0 (flushed_node (node_at tree flush.ino))) client (done + 1) known (written_followed tree client done known flush is found next f)

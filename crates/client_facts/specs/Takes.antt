@@ -1,5 +1,6 @@
 -- What may come with a grant.
 use Rattle.std.specs.Prelude.{◌≡◌, ◌<◌, ℕ, true, false, ⊤, List, Option, Some, None}
+use Rattle.cal_base.specs.Limits.{inodes}
 use Rattle.cal_base.specs.declared.identity.Ino.{Ino}
 use Rattle.client_cache.specs.declared.cached_inode.CachedInode.{CachedInode}
 use Rattle.client_cache.specs.Follows.{is_under_way}
@@ -64,6 +65,6 @@ MayCome done inode flush Open hold = ⊤
 
 -- an item of a grant may be taken
 pub record MayTake (tree : Tree) (done : ℕ) (known : Known) (item : GrantItem) : Type 0 where
-  pub inside : item.ino.0 < 512
+  pub inside : item.ino.0 < inodes
   pub comes : MayCome done (inode_at known item.ino) (flush_at known item.ino) item.«class» item.hold
   pub brings : Brings tree done item.ino (inode_at known item.ino) (flush_at known item.ino) item.«class» item.content

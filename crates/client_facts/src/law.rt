@@ -1,4 +1,5 @@
 ghost use Rattle.std.specs.Prelude.{◌≡◌, ◌≤◌, ◌<◌, ◌+◌, ℕ, true, Option, Some};
+ghost use Rattle.cal_base.specs.Limits.{inodes};
 ghost use Rattle.cal_base.specs.declared.identity.ClientId.{ClientId};
 ghost use Rattle.cal_base.specs.declared.identity.Ino.{Ino};
 ghost use Rattle.client_cache.specs.AfterAnswer.{after_answer};
@@ -7,7 +8,7 @@ ghost use Rattle.client_cache.specs.Follows.{Follows};
 ghost use Rattle.client_cache.specs.IsKnown.{IsKnown};
 ghost use Rattle.client_cache.specs.Known.{Known, inode_at, is_settled};
 ghost use Rattle.client_facts.specs.Answers.{IsAnswered};
-ghost use Rattle.client_facts.specs.Leaves.{LeavesHeld, LeavesNames, LeavesOfHeld};
+ghost use Rattle.client_facts.specs.Leaves.{LeavesHeld, LeavesOfHeld};
 ghost use Rattle.client_facts.specs.Lowers.{MayLower};
 ghost use Rattle.client_facts.specs.Takes.{MayTake};
 ghost use Rattle.token_kind.specs.declared.«class».Class.{Class};
@@ -28,13 +29,12 @@ pub fn what_others_do_is_followed()
 /// It follows the tree on when a flush starts of a file of which something is unflushed, and no other
 /// flush is outstanding.
 pub fn a_flush_that_starts_is_followed()
-    ensures { (tree : Tree) (client : ClientId) (done : ℕ) (known : Known) (ino : Ino) (leave_data leave_attr : Hold) → IsKnown known → ino.0 < 512 → is_settled known ino ≡ true → (inode_at known ino).file.unflushed ≡ true → done ≤ known.last_flush → Follows tree client done known → Follows tree client done (after_start known (new_flush known ino leave_data leave_attr)) }
+    ensures { (tree : Tree) (client : ClientId) (done : ℕ) (known : Known) (ino : Ino) (leave_data leave_attr : Hold) → IsKnown known → ino.0 < inodes → is_settled known ino ≡ true → (inode_at known ino).file.unflushed ≡ true → done ≤ known.last_flush → Follows tree client done known → Follows tree client done (after_start known (new_flush known ino leave_data leave_attr)) }
 {}
 
-/// It follows the tree with the client's next flush when that comes to be in it, where the root, the
-/// directories whose entries are held and the kinds of what they and the client's descriptors stand for stay.
+/// It follows the tree with the client's next flush when that comes to be in it.
 pub fn a_flush_in_the_tree_is_followed()
-    ensures { (tree : Tree) (client : ClientId) (done : ℕ) (known : Known) (flush : Flush) → IsKnown known → flush_numbered known flush.number ≡ Some flush → flush.number ≡ done + 1 → LeavesNames tree (after tree (Flushed client flush.ino)) client known → Follows tree client done known → Follows (after tree (Flushed client flush.ino)) client (done + 1) known }
+    ensures { (tree : Tree) (client : ClientId) (done : ℕ) (known : Known) (flush : Flush) → IsKnown known → flush_numbered known flush.number ≡ Some flush → flush.number ≡ done + 1 → Follows tree client done known → Follows (after tree (Flushed client flush.ino)) client (done + 1) known }
 {}
 
 /// It follows the tree on when the client is told that a flush is done, which is in the tree, and leaves
@@ -46,7 +46,7 @@ pub fn a_flush_that_is_done_is_followed()
 /// It follows the tree on when a hold is lowered of a file without an outstanding flush and, in Data and
 /// Attr, without unflushed writes.
 pub fn a_lowering_is_followed()
-    ensures { (tree : Tree) (client : ClientId) (done : ℕ) (known : Known) (ino : Ino) (cls : Class) (to : Hold) → IsKnown known → ino.0 < 512 → is_settled known ino ≡ true → MayLower known ino cls → Follows tree client done known → Follows tree client done (after_lower known ino cls to) }
+    ensures { (tree : Tree) (client : ClientId) (done : ℕ) (known : Known) (ino : Ino) (cls : Class) (to : Hold) → IsKnown known → ino.0 < inodes → is_settled known ino ≡ true → MayLower known ino cls → Follows tree client done known → Follows tree client done (after_lower known ino cls to) }
 {}
 
 /// It follows the tree on when an item of a grant is taken that brings what is the tree's, or nothing where

@@ -1,11 +1,7 @@
-use Rattle.std.proofs.Common.{rules}
-use Rattle.client_cache.specs.Reports.{reported_below}
-use Rattle.client_cache.proofs.Reported.{reported_below-more}
+use Rattle.std.proofs.Common.{rules, subst}
+use Rattle.client_cache.specs.IsKnown.{IsKnown}
+use Rattle.client_cache.proofs.Listed.{is_report}
 use Rattle.client_cache.proofs.cache.Cache.holds.Goals as goal
 
-pub loop-number-init : goal.loop-number-init
-unfolding reported_below
-loop-number-init c = search rules
-
-pub loop-number-preserved : goal.loop-number-preserved
-loop-number-preserved c = reported_below-more c.args.self.now c.loop-number.number _ _ c.loop-number.invariant (search rules)
+pub returns-clause-report : goal.returns-clause-report
+returns-clause-report c = is_report c.args.self.now c.in_ok-holds.holds (subst IsKnown c.self.view_is c.self.invariant) (search rules)

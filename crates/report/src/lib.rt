@@ -9,7 +9,7 @@ ghost use Rattle.std.specs.Prelude.{◌≡◌, ◌+◌, ◌*◌, ◌^◌, ◌≤
 ghost use Rattle.std.specs.List.{flat_map};
 ghost use Rattle.report.specs.Report.{pieces_of, full_piece, AreNumbered};
 
-use cal_base::{HOLDS_PER_PIECE, Items, Oom};
+use cal_base::{HOLDS_PER_PIECE, INODES, Items, Oom};
 use std::alloc::Global;
 use token_kind::{Piece, Reported, ReportedList};
 
@@ -18,14 +18,15 @@ pub type Report = Items<Piece>;
 
 /// The pieces of a report of these holds, at most 2,097,152 of them: 32 holds in each piece but the
 /// last, which has the rest; a report of no hold is one piece of none. Each piece has its place as its
-/// number, so numbers are below 65,536; the holds of one client, at most 2,048, make at most 64 pieces.
+/// number, so numbers are below 65,536; the holds of one client, at most one of each of the four classes
+/// on each inode, make at most 64 pieces.
 pub fn pieces(alloc: Global, holds: &[Reported]) -> Result<Report, Oom>
     requires { length holds.now ≤ 2 ^ 21 }
     ensures pieces { IfOk result (λ report. report ≡ pieces_of holds.now) }
     ensures together { IfOk result (λ report. flat_map (λ piece. piece.holds) report ≡ holds.now) }
     ensures numbered { IfOk result (AreNumbered 0) }
     ensures count { IfOk result (λ report. length report ≤ 2 ^ 16) }
-    ensures few { IfOk result (λ report. length holds.now ≤ 2048 → length report ≤ 64) }
+    ensures few { IfOk result (λ report. length holds.now ≤ INODES * 4 → length report ≤ 64) }
     ensures sizes { IfOk result (All (λ piece. length piece.holds ≤ HOLDS_PER_PIECE)) }
 {
     let report = cut(alloc, holds)?;
@@ -47,7 +48,7 @@ fn cut(alloc: Global, holds: &[Reported]) -> Result<Report, Oom>
 }
 
 fn full_piece(alloc: Global, holds: &[Reported], index: u16) -> Result<Piece, Oom>
-    requires { index * 32 + 32 ≤ length holds.now }
+    requires { index * HOLDS_PER_PIECE + HOLDS_PER_PIECE ≤ length holds.now }
     ensures { IfOk result (λ piece. piece ≡ full_piece holds.now index) }
 {
     let rest = &holds[index as usize * HOLDS_PER_PIECE..];

@@ -1,4 +1,5 @@
 use Rattle.std.specs.Prelude.{◌≡◌, ◌⊎◌, ◌≤◌, ◌+◌, ◌++◌, ◌∷◌, [], ℕ, List, Option, Some, None, slice_get, option_to_list}
+use Rattle.cal_base.specs.Limits.{unacknowledged as max_unacknowledged}
 use Rattle.cal_base.specs.declared.identity.NodeId.{NodeId}
 use Rattle.cal_base.specs.declared.identity.View.{View}
 use Rattle.session.specs.declared.packet.Packet.{Packet}
@@ -76,4 +77,4 @@ IsPrefix front bodies = (rest : List (List ℕ)) × (bodies ≡ front ++ rest)
 pub record Delivers (from to : End) : Type 0 where
   pub prefix : IsPrefix to.taken from.sent
   pub session : (p : Packet) → WasSent p from.packets → IsOfSession to.session p
-  pub window : (p : Packet) → WasSent p from.packets → p.seq ≤ from.session.acknowledged + 8
+  pub window : (p : Packet) → WasSent p from.packets → p.seq ≤ from.session.acknowledged + max_unacknowledged

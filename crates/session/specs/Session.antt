@@ -1,4 +1,5 @@
 use Rattle.std.specs.Prelude.{◌≡◌, ◌==◌, ◌||◌, ◌&&◌, nat_eq, ◌≤◌, ◌+◌, ◌-◌, ◌^◌, ◌++◌, ◌∷◌, [], ℕ, Bool, List, Option, Some, None, nat_lt, if◌then◌else◌, length, min, take, drop}
+use Rattle.cal_base.specs.Limits.{unacknowledged as max_unacknowledged}
 use Rattle.cal_base.specs.declared.identity.NodeId.{NodeId}
 use Rattle.cal_base.specs.declared.identity.View.{View}
 use Rattle.cal_base.specs.contracts.identity.NodeIdPartialEq.TheImpl as node_eq
@@ -21,11 +22,11 @@ new_session me peer view = record { me = me; peer = peer; view = view; acknowled
 
 -- the bodies that were sent and are not acknowledged: the first eight that are not acknowledged
 abbrev pub unacknowledged : SessionState → List (List ℕ)
-unacknowledged s = take 8 s.bodies
+unacknowledged s = take max_unacknowledged s.bodies
 
 -- the bodies that wait until one of those is acknowledged
 abbrev pub queued : SessionState → List (List ℕ)
-queued s = drop 8 s.bodies
+queued s = drop max_unacknowledged s.bodies
 
 -- how many messages have a number
 abbrev pub numbered : SessionState → ℕ
@@ -46,7 +47,7 @@ bare_ack_of s = packet_of s s.taken 0 []
 
 -- what goes out as a message is sent: nothing where eight are unacknowledged
 abbrev pub sent_packet : SessionState → List ℕ → Option Packet
-sent_packet s body = if nat_lt (length s.bodies) 8 then Some (packet_of s s.taken (s.acknowledged + length s.bodies + 1) body) else None
+sent_packet s body = if nat_lt (length s.bodies) max_unacknowledged then Some (packet_of s s.taken (s.acknowledged + length s.bodies + 1) body) else None
 
 abbrev pub after_send : SessionState → List ℕ → SessionState
 after_send s body = record s { bodies = s.bodies ++ body ∷ []; steps = s.steps + 1 }

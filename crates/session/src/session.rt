@@ -55,7 +55,7 @@ impl Session {
     pub fn send(&mut self, body: Vec<u8>) -> Result<Option<Packet>, Oom>
         requires { self.old.steps < 2 ^ 60 }
         ensures packet { IfOk result (λ packet. packet ≡ sent_packet self.old body.items) }
-        ensures none { IfOk result (λ packet. IsNone packet ↔ (length (unacknowledged self.old) ≡ 8)) }
+        ensures none { IfOk result (λ packet. IsNone packet ↔ (length (unacknowledged self.old) ≡ UNACKNOWLEDGED)) }
         ensures new { OnOk result (self.new ≡ after_send self.old body.items) }
         ensures err { OnErr result (self.new ≡ self.old) }
     {

@@ -1,5 +1,6 @@
 use Rattle.std.specs.Prelude.{ℕ, List, Bool, true, false, Option, Some, None, if◌then◌else◌, nat_lt, unwrap_or, count_by, position, replicate, slice_get, slice_set}
 use Rattle.std.specs.Option.{option_map}
+use Rattle.cal_base.specs.Limits.{clients}
 use Rattle.cal_base.specs.declared.identity.ClientId.{ClientId}
 use Rattle.token_table.specs.Table.{Table}
 use Rattle.rebuild.specs.declared.phase.Phase.{Phase}
@@ -15,7 +16,7 @@ pub record Collecting : Type 0 where
 
 -- where clients stand before any is listed
 abbrev pub none_listed : List Reporting
-none_listed = replicate 16 Unlisted
+none_listed = replicate clients Unlisted
 
 -- where a client stands
 abbrev pub standing_of : Collecting → ClientId → Reporting

@@ -1,13 +1,11 @@
-//! Tests of the disk and of a volume's sectors: what no clause says, worked bytes, and each public call
-//! once with ample memory.
+//! Tests of the disk and of a volume's sectors: worked bytes, each sector read and written once, and a port
+//! on a disk that fails. What clauses say is not said again.
 #![tactic(auto)]
 
 #[cfg(test)]
 mod commits;
 #[cfg(test)]
 mod directories;
-#[cfg(test)]
-mod disks;
 #[cfg(test)]
 mod ports;
 #[cfg(test)]

@@ -1,7 +1,5 @@
-//! Tests of what a client knows and writes by itself, over public calls alone.
+//! A test of what a client knows and writes by itself, over public calls alone.
 #![tactic(auto)]
 
 #[cfg(test)]
 mod knowing;
-#[cfg(test)]
-mod writing;

@@ -7,7 +7,8 @@ use Rattle.std.proofs.lemmas.List.Edits.{length-insert, get_or-insert_below, get
 use Rattle.directory.specs.declared.entry.DirEntry.{DirEntry}
 use Rattle.directory.specs.Block.{entry_at}
 use Rattle.directory.specs.Directory.{entry_count}
-use Rattle.directory.specs.Index.{IsBefore, IsGap, IsHint, IsIndex, IsTaken, Lists, name_at, name_of}
+use Rattle.tree_law.specs.Entries.{IsBefore}
+use Rattle.directory.specs.Index.{IsGap, IsHint, IsIndex, IsTaken, Lists, name_at, name_of}
 use Rattle.directory.proofs.Order.{before-same, sorted_apart, taken_within}
 
 -- slots that hold the same have the same index

@@ -10,7 +10,8 @@ use Rattle.std.proofs.lemmas.List.{get_or_past}
 use Rattle.directory.specs.declared.entry.DirEntry.{DirEntry}
 use Rattle.directory.specs.Block.{entry_at}
 use Rattle.directory.specs.Directory.{AreDistinct, IsAbsent, first_empty}
-use Rattle.directory.specs.Index.{IsBefore, IsFound, IsGap, IsHint, IsIndex, IsTaken, name_at, name_of}
+use Rattle.tree_law.specs.Entries.{IsBefore}
+use Rattle.directory.specs.Index.{IsFound, IsGap, IsHint, IsIndex, IsTaken, name_at, name_of}
 
 -- names that tie are the same
 pub same_name : (a b : List ℕ) → slice_cmp nat_cmp a b ≡ Equal → a ≡ b

@@ -1,16 +1,10 @@
 -- The index of a directory: the places of its entries, by name.
 use Rattle.std.specs.Prelude.{◌≡◌, ◌≢◌, ◌≤◌, ◌<◌, ℕ, [], List, length, Option, None, Some, slice_index}
-use Rattle.std.specs.Ordering.{nat_cmp}
-use Rattle.std.specs.Cmp.Lexicographic.{slice_cmp}
-use Rattle.std.specs.declared.cmp.Ordering.TheVariants.{Less}
 use Rattle.cal_base.specs.Limits.{directory_entries}
+use Rattle.tree_law.specs.Entries.{IsBefore}
 use Rattle.directory.specs.declared.entry.DirEntry.{DirEntry}
 use Rattle.directory.specs.Block.{entry_at}
 use Rattle.directory.specs.Directory.{entry_count}
-
--- a name comes before another by its bytes
-pub record IsBefore (a b : List ℕ) : Type 0 where
-  pub less : slice_cmp nat_cmp a b ≡ Less
 
 abbrev pub name_of : Option DirEntry → List ℕ
 name_of None = []

@@ -1,5 +1,6 @@
 -- The entries at the places of an index are those of the map of names.
-use Rattle.std.proofs.Common.{◌≡◌, ◌≢◌, ◌<◌, ◌≤◌, ◌∙◌, ◌&&◌, ℕ, zero, suc, Bool, true, false, T, List, [], ◌∷◌, map, Option, Some, None, length, get_or, slice_index, cond, refl, sym, ap, subst, arith}
+use Rattle.std.proofs.Common.{◌≡◌, ◌≢◌, ◌<◌, ◌≤◌, ◌∙◌, ◌&&◌, ℕ, zero, suc, Bool, true, false, T, All, List, [], ◌∷◌, map, Option, Some, None, length, get_or, slice_index, cond, refl, sym, ap, subst, arith}
+use Rattle.cal_base.specs.Limits as limits
 use Rattle.std.specs.Ordering.{eq_by_cmp}
 use Rattle.std.specs.declared.cmp.Ordering.TheVariants.{Less}
 use Rattle.std.specs.FinMap as finite
@@ -8,15 +9,16 @@ use Rattle.cal_base.specs.declared.identity.Ino.{Ino}
 use Rattle.cal_base.specs.declared.directory_entry.DirectoryEntry.{DirectoryEntry}
 use Rattle.directory.specs.Block.{entry_at}
 use Rattle.directory.specs.Directory.{IsDirectory, entry_count}
-use Rattle.directory.specs.Index.{IsBefore, IsIndex, IsTaken, name_of}
+use Rattle.directory.specs.Index.{IsIndex, IsTaken, name_of}
 use Rattle.directory.specs.declared.entry.DirEntry.{DirEntry}
+use Rattle.tree_law.specs.Entries.{AreEntries, IsBefore}
 use Rattle.tree_law.specs.Names.{Names}
 use Rattle.tree_law.specs.Path.{IsName}
 use Rattle.tree_law.specs.Tree.{Tree, root}
 use Rattle.volume.specs.Volume.{Slots}
 use Rattle.volume_plan.specs.Shown.{names_of}
 use Rattle.volume_plan.proofs.NamesOf.{got_names, one_map_by, order, same_names, standing_got, tied_names}
-use Rattle.image.specs.Listed.{AreEntries, entry_of, listed, listed_at}
+use Rattle.image.specs.Listed.{entry_of, listed, listed_at}
 
 abbrev Row : Type 0
 Row = List (List ℕ × Ino)
@@ -156,11 +158,11 @@ length-listed tree slots (place ∷ places) = ap suc (length-listed tree slots p
 
 -- of a place that is taken
 abbrev IsFormed : DirectoryEntry → Type 0
-IsFormed entry = IsName entry.name × (1 ≤ entry.ino.0) × (entry.ino.0 ≤ 511)
+IsFormed entry = IsName entry.name × (1 ≤ entry.ino.0) × (entry.ino.0 < limits.inodes)
 
 formed_at : (tree : Tree) (slots : Slots) (place : ℕ) → IsDirectory slots → IsTaken slots place → IsFormed (listed_at tree slots place)
 formed_at tree slots place d taken = elim (entry_at slots place) as (λ o. entry_at slots place ≡ o → IsFormed (listed tree o)) [
-  | Some e ↦ λ at. (let is = d.entries place e at in (is.name, is.from_one, is.to_511))
+  | Some e ↦ λ at. (let is = d.entries place e at in (let to_511 = is.to_511 in (is.name, is.from_one, omega arith)))
   | None ↦ λ at. absurd (taken at)
 ] refl
 
@@ -168,14 +170,25 @@ named_listed : (tree : Tree) (o : Option DirEntry) → (listed tree o).name ≡ 
 named_listed tree (Some e) = refl
 named_listed tree None = refl
 
+-- what an index lists: entries as a directory has them, none of them the root, and no more than the slots
+pub record IsListed (entries : List DirectoryEntry) : Type 0 where
+  pub formed : AreEntries entries
+  pub from_one : All (λ entry. 1 ≤ entry.ino.0) entries
+  pub few : length entries ≤ limits.directory_entries
+
 pub are_formed : (tree : Tree) (slots read : Slots) (places : List ℕ) (entries : List DirectoryEntry) → IsDirectory slots → IsIndex slots places → read ≡ slots
-    → entries ≡ map (listed_at tree read) places → AreEntries entries
+    → entries ≡ map (listed_at tree read) places → IsListed entries
 are_formed tree slots read places entries d index same is =
-    subst AreEntries (sym (is ∙ ap (λ (s : Slots). map (listed_at tree s) places) same)) (record {
-      names = λ k other low. subst (λ (e : DirectoryEntry). IsName e.name) (sym (at k other low)) (formed k low).0;
-      inodes = λ k other low. subst (λ (e : DirectoryEntry). (1 ≤ e.ino.0) × (e.ino.0 ≤ 511)) (sym (at k other low)) ((formed k low).1, (formed k low).2);
-      rising = λ i j other less low. subst (λ (e : DirectoryEntry). IsBefore e.name (get_or (map (listed_at tree slots) places) j other).name) (sym (at i other (omega arith)))
-          (subst (λ (e : DirectoryEntry). IsBefore (listed_at tree slots (slice_index places i)).name e.name) (sym (at j other low)) (rises_at i j less low));
+    subst IsListed (sym (is ∙ ap (λ (s : Slots). map (listed_at tree s) places) same)) (record {
+      formed = record {
+        names = λ k other low. subst (λ (e : DirectoryEntry). IsName e.name) (sym (at k other low)) (formed k low).0;
+        order = record {
+          ascending = λ i j other less low. subst (λ (e : DirectoryEntry). IsBefore e.name (get_or (map (listed_at tree slots) places) j other).name) (sym (at i other (omega arith)))
+              (subst (λ (e : DirectoryEntry). IsBefore (listed_at tree slots (slice_index places i)).name e.name) (sym (at j other low)) (rises_at i j less low));
+        };
+        inodes = λ k other low. subst (λ (e : DirectoryEntry). e.ino.0 < limits.inodes) (sym (at k other low)) (let to_511 = (formed k low).2 in omega arith);
+      };
+      from_one = λ k other low. subst (λ (e : DirectoryEntry). 1 ≤ e.ino.0) (sym (at k other low)) (formed k low).1;
       few = (let l = length-listed tree slots places in let c = index.count in let m = count_within slots in let f = d.few in omega arith);
     })
   where

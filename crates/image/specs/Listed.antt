@@ -1,15 +1,12 @@
 -- The entries of a directory, sorted by name, each with what its inode is.
-use Rattle.std.specs.Prelude.{◌≤◌, ℕ, Bool, true, false, All, List, [], length, map, Option, Some, None}
-use Rattle.std.specs.List.{AllPairs}
+use Rattle.std.specs.Prelude.{ℕ, Bool, true, false, List, [], map, Option, Some, None}
 use Rattle.std.specs.FinMap as finite
 use Rattle.cal_base.specs.declared.directory_entry.DirectoryEntry.{DirectoryEntry}
 use Rattle.cal_base.specs.declared.directory_entry.EntryKind.{EntryKind}
 use Rattle.cal_base.specs.declared.directory_entry.EntryKind.TheVariants.{File, Directory}
 use Rattle.cal_base.specs.declared.identity.Ino.{Ino}
 use Rattle.directory.specs.Block.{entry_at}
-use Rattle.directory.specs.Index.{IsBefore}
 use Rattle.directory.specs.declared.entry.DirEntry.{DirEntry}
-use Rattle.tree_law.specs.Path.{IsName}
 use Rattle.tree_law.specs.Rename.{is_directory}
 use Rattle.tree_law.specs.Tree.{Tree, node_at, root}
 use Rattle.volume.specs.Volume.{Slots, Volume, slots_of}
@@ -34,10 +31,3 @@ entry_of tree pair = record { name = pair.0; ino = pair.1; kind = kind_if (is_di
 -- what a volume lists of a directory: each of its names once, in their order; nothing of another inode
 abbrev pub listing : Volume → ℕ → List DirectoryEntry
 listing v number = map (entry_of (shown v)) (finite.entries (names_of (slots_of v number)))
-
--- entries as a directory has them: each with a name, for an inode from 1 to 511, in the order of their names, no name twice
-pub record AreEntries (entries : List DirectoryEntry) : Type 0 where
-  pub names : All (λ entry. IsName entry.name) entries
-  pub inodes : All (λ entry. (1 ≤ entry.ino.0) × (entry.ino.0 ≤ 511)) entries
-  pub rising : AllPairs (λ a b. IsBefore a.name b.name) entries
-  pub few : length entries ≤ 1024

@@ -1,6 +1,8 @@
-ghost use Rattle.std.specs.Prelude.{◌≡◌, ◌≤◌, ◌<◌, ℕ, IfOk, Some, length, map, slice_index};
+ghost use Rattle.std.specs.Prelude.{◌≡◌, ◌≤◌, ◌<◌, ℕ, All, IfOk, Some, length, map, slice_index};
+ghost use Rattle.cal_base.specs.Limits as limits;
 ghost use Rattle.directory.specs.Index.{IsTaken};
-ghost use Rattle.image.specs.Listed.{AreEntries, kind_if, listed, listed_at, listing};
+ghost use Rattle.image.specs.Listed.{kind_if, listed, listed_at, listing};
+ghost use Rattle.tree_law.specs.Entries.{AreEntries};
 ghost use Rattle.volume_plan.specs.Shown.{shown};
 
 use crate::image::Image;
@@ -13,9 +15,11 @@ impl Image {
     /// The entries of a directory in the order of their names, each with what its inode is; none where
     /// the inode isn't a directory. They are a function of the volume, as a server sends them.
     pub fn entries(&self, alloc: Global, ino: Ino) -> Result<EntryList, Oom>
-        requires { ino.0 ≤ 511 }
+        requires { ino.0 < limits.inodes }
         ensures listed { IfOk result (λ entries. entries ≡ listing self.now ino.0) }
         ensures formed { IfOk result AreEntries }
+        ensures from_one { IfOk result (All (λ entry. 1 ≤ entry.ino.0)) }
+        ensures few { IfOk result (λ entries. length entries ≤ limits.directory_entries) }
     {
         let blocks = &self.directories[ino.0 as usize];
         let entries = self.list(alloc, blocks.slots(), blocks.by_name())?;

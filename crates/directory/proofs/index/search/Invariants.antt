@@ -1,5 +1,6 @@
 use Rattle.std.proofs.Common.{◌≤◌, ◌<◌, ◌-◌, ℕ, length, slice_index}
-use Rattle.directory.specs.Index.{IsBefore, name_at}
+use Rattle.tree_law.specs.Entries.{IsBefore}
+use Rattle.directory.specs.Index.{name_at}
 use Rattle.directory.proofs.index.search.Given as goal
 
 abbrev pub invariant-loop-low : goal.invariant-loop-low

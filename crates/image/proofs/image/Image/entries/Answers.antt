@@ -17,4 +17,10 @@ returns-clause-listed c =
     (are_listed tree c.index-blocks.result.now _ _ _ c.by_name.ensures.directory c.by_name.ensures.index c.slots.ensures.slots c.in_ok-entries.ensures)
 
 pub returns-clause-formed : goal.returns-clause-formed
-returns-clause-formed c = are_formed (shown c.args.self.now) c.index-blocks.result.now _ _ _ c.by_name.ensures.directory c.by_name.ensures.index c.slots.ensures.slots c.in_ok-entries.ensures
+returns-clause-formed c = (are_formed (shown c.args.self.now) c.index-blocks.result.now _ _ _ c.by_name.ensures.directory c.by_name.ensures.index c.slots.ensures.slots c.in_ok-entries.ensures).formed
+
+pub returns-clause-from_one : goal.returns-clause-from_one
+returns-clause-from_one c = (are_formed (shown c.args.self.now) c.index-blocks.result.now _ _ _ c.by_name.ensures.directory c.by_name.ensures.index c.slots.ensures.slots c.in_ok-entries.ensures).from_one
+
+pub returns-clause-few : goal.returns-clause-few
+returns-clause-few c = (are_formed (shown c.args.self.now) c.index-blocks.result.now _ _ _ c.by_name.ensures.directory c.by_name.ensures.index c.slots.ensures.slots c.in_ok-entries.ensures).few

@@ -1,4 +1,5 @@
 ghost use Rattle.std.specs.Prelude.{◌≡◌, ◌≤◌, ◌<◌, ◌^◌, IfOk, IfSome, Ok, length, slice_index_or, []};
+ghost use Rattle.cal_base.specs.Limits as limits;
 ghost use Rattle.std.specs.Option.{option_map};
 ghost use Rattle.directory.specs.Directory.{first_empty};
 ghost use Rattle.tree_law.specs.Needs.{touches};
@@ -15,7 +16,7 @@ use crate::change_plan::{ChangePlan, TouchList, does_grow};
 use crate::image::Image;
 use crate::making::{first_place, last_of, needed_by};
 use crate::removing::place_of;
-use cal_base::{ClientId, Ino, Oom};
+use cal_base::{ClientId, INODES, Ino, Oom};
 use directory::{DirEntry, EntryName};
 use std::alloc::Global;
 use tree_law::{Move, Path, Reply, Why, move_of};
@@ -39,8 +40,8 @@ struct Landing {
 impl Image {
     /// The first empty slot of the directory that gets the entry, once the entry has left the other.
     fn spot_for(&self, shift: Move, name: &[u8]) -> Spot
-        requires from { shift.from.0 ≤ 511 }
-        requires to { shift.to.0 ≤ 511 }
+        requires from { shift.from.0 < limits.inodes }
+        requires to { shift.to.0 < limits.inodes }
         requires within { place_of (slots_of self.now shift.from.0) name.now < length (slots_of self.now shift.from.0) }
         ensures place { result.place ≡ first_empty (slots_without self.now shift name.now) }
         ensures adds { result.adds ≡ grows (slots_without self.now shift name.now) }
@@ -62,8 +63,8 @@ impl Image {
 
     /// Where the entry of a move lands: in the slot of the name that it replaces, or in an empty one.
     fn landing_of(&self, shift: Move, name: &[u8], goal: &[u8]) -> Landing
-        requires from { shift.from.0 ≤ 511 }
-        requires to { shift.to.0 ≤ 511 }
+        requires from { shift.from.0 < limits.inodes }
+        requires to { shift.to.0 < limits.inodes }
         requires within { place_of (slots_of self.now shift.from.0) name.now < length (slots_of self.now shift.from.0) }
         ensures place { result.place ≡ place_entered self.now shift name.now goal.now }
         ensures growth { result.growth ≡ growth_moved self.now shift name.now }
@@ -86,7 +87,7 @@ impl Image {
 
     /// The edit of the inode that a move replaces.
     fn target_gone(&self, opened: &[Ino], target: Option<Ino>) -> Option<InodeEdit>
-        requires { IfSome target (λ ino. ino.0 ≤ 511) }
+        requires { IfSome target (λ ino. ino.0 < limits.inodes) }
         ensures { result ≡ option_map (inode_gone self.now opened.now) target }
     {
         match target {
@@ -106,11 +107,11 @@ impl Image {
         name: &[u8],
         goal: &[u8],
     ) -> ChangePlan
-        requires client { client.0 < 16 }
-        requires from { shift.from.0 ≤ 511 }
-        requires to { shift.to.0 ≤ 511 }
-        requires target { IfSome shift.replaced (λ ino. ino.0 ≤ 511) }
-        requires goal { length goal.now ≤ 27 }
+        requires client { client.0 < limits.clients }
+        requires from { shift.from.0 < limits.inodes }
+        requires to { shift.to.0 < limits.inodes }
+        requires target { IfSome shift.replaced (λ ino. ino.0 < limits.inodes) }
+        requires goal { length goal.now ≤ limits.name_bytes }
         requires within { place_of (slots_of self.now shift.from.0) name.now < length (slots_of self.now shift.from.0) }
         ensures { plan_of result ≡ moving self.now client number opened.now (touch_numbers touches) shift name.now goal.now }
     {
@@ -165,12 +166,11 @@ impl Image {
         path: &Path,
         goal: &Path,
     ) -> ChangePlan
-        requires client { client.0 < 16 }
+        requires client { client.0 < limits.clients }
         requires moves { if_there self.now (move_of (shown self.now) path.now goal.now) ≡ Ok shift }
         ensures { plan_of result ≡ moving_by self.now client number opened.now (touch_numbers touches) (Ok shift) (last_of path.now) (last_of goal.now) }
     {
-        // Reading a field brings in that the volume is within its grammar.
-        let _ = &self.clients;
+        prove!(self.inodes.len() == INODES);
         if shift.is_same {
             return self.standing(alloc, client, number, None);
         }
@@ -189,7 +189,7 @@ impl Image {
         goal: &Path,
         opened: &[Ino],
     ) -> Result<ChangePlan, Oom>
-        requires { client.0 < 16 }
+        requires { client.0 < limits.clients }
         ensures path { IsPath path.now }
         ensures goal { IsPath goal.now }
         ensures plan { IfOk result (λ p. plan_of p ≡ moving_by self.now client number opened.now (touches (shown self.now) (Rename path.now goal.now)) (if_there self.now (move_of (shown self.now) path.now goal.now)) (last_of path.now) (last_of goal.now)) }

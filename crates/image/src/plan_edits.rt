@@ -1,4 +1,5 @@
 ghost use Rattle.std.specs.Prelude.{◌≡◌, ◌≤◌, ◌<◌, ℕ, true, false, List, None, IfOk};
+ghost use Rattle.cal_base.specs.Limits as limits;
 ghost use Rattle.shared_disk.specs.Sectors.{written};
 ghost use Rattle.tree_law.specs.Legal.{tree_of};
 ghost use Rattle.tree_law.specs.Tree.{is_purged, node_at};
@@ -17,7 +18,7 @@ use crate::change_plan::slot_alone;
 use crate::image::Image;
 use crate::removing::free_inode;
 use crate::slots::slot_again;
-use cal_base::{ClientId, Ino, Oom};
+use cal_base::{ClientId, INODES, Ino, Oom};
 use request_log::Slot;
 use shared_disk::Txn;
 use std::alloc::Global;
@@ -36,7 +37,7 @@ impl Image {
     /// The plan of a purge: the client's slot says that it is purged, and keeps the rest. It has one
     /// home. The image is as it was until the edit is made.
     pub fn plan_purge(&self, alloc: Global, client: ClientId) -> Result<EditPlan, Oom>
-        requires { client.0 < 16 }
+        requires { client.0 < limits.clients }
         ensures edit { IfOk result (λ plan. plan.edit ≡ purge_of self.now client) }
         ensures allowed { IfOk result (λ plan. IsEdit self.now plan.edit) }
         ensures takes { IfOk result (λ plan. TakesFree self.now plan.edit) }
@@ -51,7 +52,7 @@ impl Image {
 
     /// The plan of the reaping of a file without a name: its inode and its blocks are free then.
     pub fn plan_reap(&self, alloc: Global, ino: Ino) -> Result<EditPlan, Oom>
-        requires to_511 { ino.0 ≤ 511 }
+        requires to_511 { ino.0 < limits.inodes }
         requires orphan { is_orphan (inode_at self.now.inodes ino.0) ≡ true }
         ensures edit { IfOk result (λ plan. plan.edit ≡ reap_of ino) }
         ensures allowed { IfOk result (λ plan. IsEdit self.now plan.edit) }
@@ -67,7 +68,7 @@ impl Image {
 
     /// What a purge of a client alters.
     fn purge_of(&self, client: ClientId) -> Edit
-        requires { client.0 < 16 }
+        requires { client.0 < limits.clients }
         ensures edit { result ≡ purge_of self.now client }
         ensures is { IsEdit self.now result }
     {
@@ -85,13 +86,12 @@ impl Image {
 
     /// What the reaping of an orphan alters.
     fn reap_of(&self, ino: Ino) -> Edit
-        requires to_511 { ino.0 ≤ 511 }
+        requires to_511 { ino.0 < limits.inodes }
         requires orphan { is_orphan (inode_at self.now.inodes ino.0) ≡ true }
         ensures edit { result ≡ reap_of ino }
         ensures is { IsEdit self.now result }
     {
-        // Reading a field brings in that the volume is within its grammar.
-        let _ = &self.clients;
+        prove!(self.inodes.len() == INODES);
         Edit {
             slot: None,
             inode: Some(InodeEdit {
@@ -106,7 +106,7 @@ impl Image {
 
     /// The slot of a client once more.
     pub(crate) fn slot_again(&self, client: ClientId) -> Slot
-        requires { client.0 < 16 }
+        requires { client.0 < limits.clients }
         ensures at { result ≡ slot_at self.now.slots client.0 }
         ensures volume { IsVolume self.now }
     {

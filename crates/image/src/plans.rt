@@ -1,20 +1,21 @@
 ghost use Rattle.std.specs.Prelude.{◌≡◌, ◌≤◌, ◌<◌, ◌∷◌, ℕ, List, true, IfOk};
+ghost use Rattle.cal_base.specs.Limits as limits;
 ghost use Rattle.cal_base.specs.declared.identity.Ino.{Ino};
 ghost use Rattle.tree_law.specs.declared.entry.Entry.{Entry};
 ghost use Rattle.tree_law.specs.declared.entry.Entry.TheVariants.{Call as Called};
-ghost use Rattle.volume.specs.Numbers.{is_change};
+ghost use Rattle.tree_law.specs.Change.{HasPaths, is_change};
 ghost use Rattle.volume.specs.Stands.{AreBlocksKept};
 ghost use Rattle.volume_edit.specs.Blocks.{TakesFree};
 ghost use Rattle.volume_edit.specs.Edit.{IsEdit, IsVolume};
 ghost use Rattle.volume_edit.specs.Homes.{AreHomes};
-ghost use Rattle.volume_plan.specs.Leads.{HasPaths, IsAsked, Mounted};
+ghost use Rattle.volume_plan.specs.Leads.{IsAsked, Mounted};
 ghost use Rattle.volume_plan.specs.Plans.{plan};
 ghost use Rattle.image.specs.EntryPlans.{EntryStands};
 ghost use Rattle.image.specs.Planning.{plan_of};
 
 use crate::change_plan::ChangePlan;
 use crate::image::Image;
-use cal_base::{ClientId, Ino, Oom};
+use cal_base::{ClientId, INODES, Ino, Oom};
 use inode::Kind;
 use shared_disk::Txn;
 use std::alloc::Global;
@@ -43,7 +44,7 @@ impl Image {
         call: &Call,
         opened: &[Ino],
     ) -> Result<Planned, Oom>
-        requires client { client.0 < 16 }
+        requires client { client.0 < limits.clients }
         requires number { 1 ≤ number }
         requires change { is_change call.now ≡ true }
         ensures plan { IfOk result (λ p. plan_of p.plan ≡ plan self.now client number call.now opened.now) }
@@ -67,14 +68,13 @@ impl Image {
         call: &Call,
         opened: &[Ino],
     ) -> Result<ChangePlan, Oom>
-        requires client { client.0 < 16 }
+        requires client { client.0 < limits.clients }
         requires change { is_change call.now ≡ true }
         ensures paths { HasPaths call.now }
         ensures plan { IfOk result (λ p. plan_of p ≡ plan self.now client number call.now opened.now) }
         ensures volume { IsVolume self.now }
     {
-        // Reading a field brings in that the volume is within its grammar.
-        let _ = &self.clients;
+        prove!(self.inodes.len() == INODES);
         match call {
             Call::Create(path) => self.plan_making(alloc, client, number, path, Kind::File),
             Call::Mkdir(path) => self.plan_making(alloc, client, number, path, Kind::Dir),

@@ -1,5 +1,6 @@
 //! Resolving on the image: it shows a file tree, and the tree's own calls look at it.
-ghost use Rattle.std.specs.Prelude.{◌≡◌, ◌≤◌, [], IfOk, is_some};
+ghost use Rattle.std.specs.Prelude.{◌<◌, ◌≡◌, ◌≤◌, [], IfOk, is_some};
+ghost use Rattle.cal_base.specs.Limits as limits;
 ghost use Rattle.image.specs.Nodes.{node_of};
 ghost use Rattle.inode.specs.declared.inode.Kind.TheVariants.{File};
 ghost use Rattle.tree_law.specs.Resolve.{file_named, new_place, parent_of, removable};
@@ -12,7 +13,7 @@ use crate::shown_node::{
     ShownNode, as_directory, as_empty_directory, as_file, is_directory, is_full_directory,
     is_shown, look_up, replacing, room_for,
 };
-use cal_base::{Blob, Ino};
+use cal_base::{Blob, INODES, Ino};
 use inode::Kind;
 use tree_law::{Lookup, Move, Why, file_named, new_place, parent_of, removable};
 
@@ -78,15 +79,12 @@ impl Image {
         is_shown(self.node(ino))
     }
 
-    // The four calls below read a field so that it is known that the volume is within its grammar, and
-    // so that the inode that they give is one of its 512.
-
     /// The directory in which the last name of a path is looked up, or the first refusal.
     pub fn parent(&self, path: &[Blob]) -> Result<Ino, Why>
         ensures is { result ≡ parent_of (shown self.now) path.now }
-        ensures within { IfOk result (λ ino. ino.0 ≤ 511) }
+        ensures within { IfOk result (λ ino. ino.0 < limits.inodes) }
     {
-        let _ = &self.clients;
+        prove!(self.inodes.len() == INODES);
         parent_of(self, path)
     }
 
@@ -94,27 +92,27 @@ impl Image {
     /// `mkdir`.
     pub fn new_place(&self, path: &[Blob]) -> Result<Ino, Why>
         ensures is { result ≡ new_place (shown self.now) path.now }
-        ensures within { IfOk result (λ ino. ino.0 ≤ 511) }
+        ensures within { IfOk result (λ ino. ino.0 < limits.inodes) }
     {
-        let _ = &self.clients;
+        prove!(self.inodes.len() == INODES);
         new_place(self, path)
     }
 
     /// The file that a path names, or the first refusal of `unlink` or `open`.
     pub fn file_named(&self, path: &[Blob]) -> Result<Ino, Why>
         ensures is { result ≡ file_named (shown self.now) path.now }
-        ensures within { IfOk result (λ ino. ino.0 ≤ 511) }
+        ensures within { IfOk result (λ ino. ino.0 < limits.inodes) }
     {
-        let _ = &self.clients;
+        prove!(self.inodes.len() == INODES);
         file_named(self, path)
     }
 
     /// The empty directory that a path names, or the first refusal of `rmdir`.
     pub fn removable(&self, path: &[Blob]) -> Result<Ino, Why>
         ensures is { result ≡ removable (shown self.now) path.now }
-        ensures within { IfOk result (λ ino. ino.0 ≤ 511) }
+        ensures within { IfOk result (λ ino. ino.0 < limits.inodes) }
     {
-        let _ = &self.clients;
+        prove!(self.inodes.len() == INODES);
         removable(self, path)
     }
 }

@@ -1,5 +1,6 @@
 -- An inode and a directory after an edit, one by one.
-use Rattle.std.proofs.Common.{◌≡◌, ◌≤◌, ◌<◌, ◌++◌, ◌∙◌, replicate, ℕ, Bool, true, false, List, [], Option, Some, None, length, refl, sym, ap, subst, inl, inr, arith, get_or}
+use Rattle.std.proofs.Common.{◌+◌, ◌≡◌, ◌≤◌, ◌<◌, ◌++◌, ◌∙◌, replicate, ℕ, Bool, true, false, List, [], Option, Some, None, length, refl, sym, ap, subst, inl, inr, arith, get_or}
+use Rattle.cal_base.specs.Limits as limits
 use Rattle.std.specs.Prelude.{◌==◌, IfSome, slice_set, if◌then◌else◌}
 use Rattle.std.proofs.lemmas.Bool.{cases_eq, eq-eqb, eqb-false, ne_eqb}
 use Rattle.std.proofs.lemmas.List.{get_or-set_other, get_or-set_same}
@@ -52,21 +53,21 @@ grown_is (Some g) xs number low =
     at_set xs g.directory.0 number (grown_inode (inode_at xs g.directory.0) g.block) free_inode low ∙ grown_here xs g.directory.0 number g.block
 
 -- the inode of a number after an edit is put, and then grown
-pub after_is : (v : Volume) (e : Edit) (number : ℕ) → IsVolume v → number ≤ 511 → inode_at (edited v e).inodes number ≡ grown_at e.growth number (put_at e.inode number (inode_at v.inodes number))
+pub after_is : (v : Volume) (e : Edit) (number : ℕ) → IsVolume v → number < limits.inodes → inode_at (edited v e).inodes number ≡ grown_at e.growth number (put_at e.inode number (inode_at v.inodes number))
 after_is v e number h low =
     let count = h.inode_count in
     let long = length-with_inode e.inode v.inodes in
     grown_is e.growth (with_inode v.inodes e.inode) number (omega arith)
     ∙ ap (λ (i : Inode). grown_at e.growth number i) (put_is e.inode v.inodes number (omega arith))
 
-pub inode_then : (v : Volume) (e : Edit) (number : ℕ) → IsVolume v → IsEdit v e → number ≤ 511 → IsInode (inode_at (edited v e).inodes number)
+pub inode_then : (v : Volume) (e : Edit) (number : ℕ) → IsVolume v → IsEdit v e → number < limits.inodes → IsInode (inode_at (edited v e).inodes number)
 inode_then v e number h is low = inode_within (edited v e) number (edited_volume v e h is) low
 
 can_grow_at : (o : Option Growth) (xs : List Inode) (number : ℕ) → IfSome o (CanGrowInode xs) → CanGrowAt o number (inode_at xs number)
 can_grow_at None xs number h = tt
-can_grow_at (Some g) xs number h = λ same. (subst (λ (n : ℕ). (inode_at xs n).size ≤ 28672) same h.size, h.block)
+can_grow_at (Some g) xs number h = λ same. (subst (λ (n : ℕ). (inode_at xs n).size + limits.block_size ≤ limits.directory_size) same h.size, h.block)
 
-pub can_grow_then : (v : Volume) (e : Edit) (number : ℕ) → IsVolume v → IsEdit v e → number ≤ 511 → CanGrowAt e.growth number (put_at e.inode number (inode_at v.inodes number))
+pub can_grow_then : (v : Volume) (e : Edit) (number : ℕ) → IsVolume v → IsEdit v e → number < limits.inodes → CanGrowAt e.growth number (put_at e.inode number (inode_at v.inodes number))
 can_grow_then v e number h is low =
     let count = h.inode_count in
     subst (λ (i : Inode). CanGrowAt e.growth number i) (put_is e.inode v.inodes number (omega arith))
@@ -77,14 +78,14 @@ pub read_at : {A : Type 0} (xs : List A) (n : ℕ) (x d : A) → n < length xs �
 read_at xs n x d low read = sym (get_or_from_slice_get xs n x d (slice_get_read xs (length xs) n x refl low read))
 
 -- the inode that was read, put, and then grown is that after the edit
-pub can_grow_read : (v : Volume) (e : Edit) (number : ℕ) (read put : Inode) → IsVolume v → IsEdit v e → number ≤ 511 → read ≡ get_or v.inodes number read → put ≡ put_at e.inode number read
+pub can_grow_read : (v : Volume) (e : Edit) (number : ℕ) (read put : Inode) → IsVolume v → IsEdit v e → number < limits.inodes → read ≡ get_or v.inodes number read → put ≡ put_at e.inode number read
     → CanGrowAt e.growth number put
 can_grow_read v e number read put h is low there made =
     let count = h.inode_count in
     let was = read_at v.inodes number read free_inode (omega arith) there in
     subst (λ (i : Inode). CanGrowAt e.growth number i) (sym (made ∙ ap (λ (i : Inode). put_at e.inode number i) was)) (can_grow_then v e number h is low)
 
-pub read_after : (v : Volume) (e : Edit) (number : ℕ) (read put grown : Inode) → IsVolume v → number ≤ 511 → read ≡ get_or v.inodes number read → put ≡ put_at e.inode number read → grown ≡ grown_at e.growth number put
+pub read_after : (v : Volume) (e : Edit) (number : ℕ) (read put grown : Inode) → IsVolume v → number < limits.inodes → read ≡ get_or v.inodes number read → put ≡ put_at e.inode number read → grown ≡ grown_at e.growth number put
     → grown ≡ inode_at (edited v e).inodes number
 read_after v e number read put grown h low there made grew =
     let count = h.inode_count in
@@ -132,7 +133,7 @@ slots_stay None ds number other = refl
 slots_stay (Some i) ds number other = get_or-set_other ds i.ino.0 number [] [] (λ same. eqb-false i.ino.0 number other (sym same))
 
 -- a directory that stays has its slots changed, and no others
-pub slots_after : (v : Volume) (e : Edit) (number : ℕ) → IsVolume v → number ≤ 511 → is_edited e.inode number ≡ false
+pub slots_after : (v : Volume) (e : Edit) (number : ℕ) → IsVolume v → number < limits.inodes → is_edited e.inode number ≡ false
     → slots_of (edited v e) number ≡ changed (grows_of e.growth number) (leaving_at e.leaving number) (entering_at e.entering number) (slots_of v number)
 slots_after v e number h low other =
     let count = h.directory_count in
@@ -146,13 +147,13 @@ slots_after v e number h low other =
     ∙ ap (λ (slots : Slots). entered (entering_at e.entering number) (left (leaving_at e.leaving number) slots)) before
 
 -- the changes of a directory that are told leave its slots as they are then
-pub changes_leave : (v : Volume) (e : Edit) (number : ℕ) (grows : Bool) (leaving : Option ℕ) (entering : Option (ℕ × DirEntry)) (slots : Slots) → IsVolume v → number ≤ 511 → is_edited e.inode number ≡ false
+pub changes_leave : (v : Volume) (e : Edit) (number : ℕ) (grows : Bool) (leaving : Option ℕ) (entering : Option (ℕ × DirEntry)) (slots : Slots) → IsVolume v → number < limits.inodes → is_edited e.inode number ≡ false
     → grows ≡ grows_of e.growth number → leaving ≡ leaving_at e.leaving number → entering ≡ entering_at e.entering number → slots ≡ slots_of v number
     → changed grows leaving entering slots ≡ slots_of (edited v e) number
 changes_leave v e number grows leaving entering slots h low other a b c d = rw (a, b, c, d) (sym (slots_after v e number h low other))
 
 -- the same for the slots as they were read from the image
-pub slots_left_there : (v w : Volume) (e : Edit) (number : ℕ) (grows : Bool) (leaving : Option ℕ) (entering : Option (ℕ × DirEntry)) (slots : Slots) → IsVolume v → v ≡ w → number ≤ 511 → is_edited e.inode number ≡ false
+pub slots_left_there : (v w : Volume) (e : Edit) (number : ℕ) (grows : Bool) (leaving : Option ℕ) (entering : Option (ℕ × DirEntry)) (slots : Slots) → IsVolume v → v ≡ w → number < limits.inodes → is_edited e.inode number ≡ false
     → grows ≡ grows_of e.growth number → leaving ≡ leaving_at e.leaving number → entering ≡ entering_at e.entering number → slots ≡ get_or v.directories number slots
     → changed grows leaving entering slots ≡ slots_of (edited w e) number
 slots_left_there v w e number grows leaving entering slots h same low other a b c read =

@@ -1,5 +1,6 @@
 -- The parts of an edit of a volume can be made, and what is kept to find things is right again.
 use Rattle.std.proofs.Common.{◌≡◌, ◌≤◌, ◌<◌, ◌++◌, ◌∙◌, ℕ, Bool, false, List, [], Option, Some, None, length, replicate, take, drop, refl, sym, ap, subst, inl, inr, arith}
+use Rattle.cal_base.specs.Limits as limits
 use Rattle.std.specs.Prelude.{IfSome}
 use Rattle.std.proofs.lemmas.Bool.{cases_eq, cases_lt, ne_eqb}
 use Rattle.std.proofs.lemmas.List.{drop_all, length-set, take_at}
@@ -39,7 +40,7 @@ can_put v h i of =
 pub can_mark : (v : Volume) (e : Edit) → IsVolume v → IsEdit v e → CanMark v.inodes e
 can_mark v e h is = record {
   inode = some_more IsInodeEdit (CanPut v.inodes) e.inode (can_put v h) is.inode;
-  growth = some_more (IsGrowth v e) (λ (g : Growth). g.block < 2048) e.growth (λ g of. of.block) is.growth;
+  growth = some_more (IsGrowth v e) (λ (g : Growth). g.block < limits.blocks) e.growth (λ g of. of.block) is.growth;
 }
 
 can_grow_inode : (v : Volume) (e : Edit) → IsVolume v → (g : Growth) → IsGrowth v e g → CanGrowInode (with_inode v.inodes e.inode) g
@@ -65,7 +66,7 @@ can_change_inodes v e h is = record {
 }
 
 -- a directory has no fewer slots once one has grown
-no_fewer : (v : Volume) (e : Edit) (o : Option Growth) (m : ℕ) → length v.directories ≡ 512 → IfSome o (IsGrowth v e) → length (slots_at v.directories m) ≤ length (slots_at (with_grown v.directories o) m)
+no_fewer : (v : Volume) (e : Edit) (o : Option Growth) (m : ℕ) → length v.directories ≡ limits.inodes → IfSome o (IsGrowth v e) → length (slots_at v.directories m) ≤ length (slots_at (with_grown v.directories o) m)
 no_fewer v e None m count h = omega arith
 no_fewer v e (Some g) m count h = elim (cases_eq m g.directory.0) [
   | inl here ↦ (
@@ -112,7 +113,7 @@ below_edit (Some i) low number above below = ne_eqb i.ino.0 number (λ same. ome
 
 -- none is so below a number from which on the first was sought
 pub none_again : (f : Kind → Bool → Bool) (v : Volume) (e : Edit) (hint low found : ℕ) → IsVolume v → IsEdit v e
-    → IsNoneBefore (λ i. f i.kind i.named) v.inodes hint → low ≤ hint → IfSome e.inode (λ (i : InodeEdit). low ≤ i.ino.0) → found ≤ 512
+    → IsNoneBefore (λ i. f i.kind i.named) v.inodes hint → low ≤ hint → IfSome e.inode (λ (i : InodeEdit). low ≤ i.ino.0) → found ≤ limits.inodes
     → ((number : ℕ) → low ≤ number → number < found → f (inode_at (edited v e).inodes number).kind (inode_at (edited v e).inodes number).named ≡ false)
     → IsNoneBefore (λ i. f i.kind i.named) (edited v e).inodes found
 none_again f v e hint low found h is before lower above within sought = record {

@@ -1,5 +1,6 @@
 -- A plan's edit is one, and its transaction carries the change out.
 use Rattle.std.proofs.Common.{◌≡◌, ◌≤◌, ◌<◌, ◌^◌, ℕ, List, sym, subst}
+use Rattle.cal_base.specs.Limits as limits
 use Rattle.cal_base.specs.declared.identity.ClientId.{ClientId}
 use Rattle.cal_base.specs.declared.identity.Ino.{Ino}
 use Rattle.tree_law.specs.declared.call.Call.{Call}
@@ -10,7 +11,8 @@ use Rattle.volume.specs.Stands.{AreBlocksKept}
 use Rattle.volume_edit.specs.Blocks.{TakesFree}
 use Rattle.volume_edit.specs.Edit.{IsEdit, IsVolume}
 use Rattle.volume_edit.specs.Homes.{AreHomes}
-use Rattle.volume_plan.specs.Leads.{HasPaths, IsAsked, Leads, Mounted}
+use Rattle.tree_law.specs.Change.{HasPaths}
+use Rattle.volume_plan.specs.Leads.{IsAsked, Leads, Mounted}
 use Rattle.volume_plan.specs.Plans.{Plan, plan}
 use Rattle.volume_plan.proofs.AllEdits.{plan_edit}
 use Rattle.volume_plan.proofs.EachChange.{change_leads}
@@ -19,7 +21,7 @@ use Rattle.image.specs.Planning.{plan_of}
 use Rattle.image.specs.EntryPlans.{EntryStands}
 use Rattle.image.specs.declared.change_plan.ChangePlan.{ChangePlan}
 
-pub planned_edit : (v : Volume) (client : ClientId) (number : ℕ) (call : Call) (opened : List Ino) (p : ChangePlan) → IsVolume v → client.0 < 16 → 1 ≤ number → number < 2 ^ 64 → HasPaths call → plan_of p ≡ plan v client number call opened → IsEdit v p.edit
+pub planned_edit : (v : Volume) (client : ClientId) (number : ℕ) (call : Call) (opened : List Ino) (p : ChangePlan) → IsVolume v → client.0 < limits.clients → 1 ≤ number → number < 2 ^ 64 → HasPaths call → plan_of p ≡ plan v client number call opened → IsEdit v p.edit
 planned_edit v client number call opened p is known some fits paths same =
     subst (λ (q : Plan). IsEdit v q.edit) (sym same) (plan_edit v client number call opened is (record { known = known; from_one = some; fits = fits }) paths)
 

@@ -1,5 +1,6 @@
 -- Where a sector is outside its grammar, the sectors spell no volume.
 use Rattle.std.proofs.Common.{◌≡◌, ◌≤◌, ◌<◌, ◌+◌, ◌*◌, ℕ, zero, suc, List, length, take, get_or, slice_get, slice_index, Some, Err, Result, sym, ap, ◌∙◌, subst, arith}
+use Rattle.cal_base.specs.Limits as limits
 use Rattle.std.proofs.lemmas.Option.{slice_get-get_or}
 use Rattle.directory.specs.Block.{SpellsBlock}
 use Rattle.directory.specs.Directory.{Continues, block_slots}
@@ -37,7 +38,7 @@ loads_front s i slots d (suc count) before within l =
     one_way (take (128 * count) slots) before _ bytes (subst (λ (xs : Slots). Continues xs bytes before) front l.continues) follows ∙ ap (λ (n : ℕ). take n slots) more
 
 -- a block that breaks a directory off
-no_block : (s : List (List ℕ)) (number at : ℕ) → number < 512 → LacksBlock number s at → (v : Volume) → SpellsVolume (outside s) v → ⊥
+no_block : (s : List (List ℕ)) (number at : ℕ) → number < limits.inodes → LacksBlock number s at → (v : Volume) → SpellsVolume (outside s) v → ⊥
 no_block s number at small b v spells =
     let count = spells.inode_count in
     let within = b.within in

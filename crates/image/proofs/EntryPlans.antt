@@ -1,5 +1,6 @@
 -- The plans of purges, reapings and flushes keep what the laws promise.
 use Rattle.std.proofs.Common.{◌≡◌, ◌≤◌, ◌<◌, ◌^◌, ℕ, true, false, Bool, List, [], length, replicate, Some, None, slice_get, refl, sym, subst, arith}
+use Rattle.cal_base.specs.Limits as limits
 use Rattle.std.proofs.lemmas.List.{length-replicate}
 use Rattle.cal_base.specs.declared.identity.ClientId.{ClientId}
 use Rattle.cal_base.specs.declared.identity.Ino.{Ino}
@@ -32,7 +33,7 @@ use Rattle.volume_plan.specs.Plans.{free_count, purge_of, reap_of}
 use Rattle.image.specs.EntryPlans.{EntryStands, FlushStands}
 use Rattle.image.specs.Image.{is_nameless, is_orphan}
 
-pub purge_is : (v : Volume) (client : ClientId) (e : Edit) → e ≡ purge_of v client → IsVolume v → client.0 < 16 → IsEdit v e
+pub purge_is : (v : Volume) (client : ClientId) (e : Edit) → e ≡ purge_of v client → IsVolume v → client.0 < limits.clients → IsEdit v e
 purge_is v client e same is known = subst (IsEdit v) (sym same) (purge_edits v client is known)
 
 pub purge_takes_free : (v : Volume) (client : ClientId) (e : Edit) → e ≡ purge_of v client → TakesFree v e
@@ -47,13 +48,13 @@ flush_takes_of v client flush e same is kept of file enough = subst (TakesFree v
 pub data_goes : (v : Volume) (flush : Flush) (writes : List (ℕ × List ℕ)) → writes ≡ data_writes (blocks_for v flush) flush.pieces → GoToFree v writes
 data_goes v flush writes same = subst (GoToFree v) (sym same) (data_goes_to_free v flush)
 
-purge_led : (sectors : List (List ℕ)) (v : Volume) (history : List Entry) (client : ClientId) (homes : List (ℕ × List ℕ)) → Mounted sectors v history → client.0 < 16 → is_purged (tree_of history) client ≡ false → AreHomes v (purge_of v client) homes
+purge_led : (sectors : List (List ℕ)) (v : Volume) (history : List Entry) (client : ClientId) (homes : List (ℕ × List ℕ)) → Mounted sectors v history → client.0 < limits.clients → is_purged (tree_of history) client ≡ false → AreHomes v (purge_of v client) homes
     → EntryStands sectors v history (purge_of v client) homes (Purge client)
 purge_led sectors v history client homes m known present are =
     let leads = purge_leads sectors v history client m known present in
     record { next = leads.next; stands = leads.stands homes are }
 
-pub purge_stands : (sectors : List (List ℕ)) (v : Volume) (history : List Entry) (client : ClientId) (e : Edit) (homes : List (ℕ × List ℕ)) → e ≡ purge_of v client → AreHomes v e homes → Mounted sectors v history → client.0 < 16 → is_purged (tree_of history) client ≡ false
+pub purge_stands : (sectors : List (List ℕ)) (v : Volume) (history : List Entry) (client : ClientId) (e : Edit) (homes : List (ℕ × List ℕ)) → e ≡ purge_of v client → AreHomes v e homes → Mounted sectors v history → client.0 < limits.clients → is_purged (tree_of history) client ≡ false
     → EntryStands sectors v history e homes (Purge client)
 purge_stands sectors v history client e homes same are m known present =
     subst (λ (o : Edit). EntryStands sectors v history o homes (Purge client)) (sym same) (purge_led sectors v history client homes m known present (subst (λ (o : Edit). AreHomes v o homes) same are))
@@ -66,19 +67,19 @@ nameless_file Dir named e = absurd (cc)
 file_of : (v : Volume) (ino : Ino) → is_orphan (inode_at v.inodes ino.0) ≡ true → (inode_at v.inodes ino.0).kind ≡ File
 file_of v ino orphan = nameless_file (inode_at v.inodes ino.0).kind (inode_at v.inodes ino.0).named orphan
 
-there_of : (v : Volume) (ino : Ino) → IsVolume v → ino.0 ≤ 511 → slice_get v.inodes ino.0 ≡ Some (inode_at v.inodes ino.0)
+there_of : (v : Volume) (ino : Ino) → IsVolume v → ino.0 < limits.inodes → slice_get v.inodes ino.0 ≡ Some (inode_at v.inodes ino.0)
 there_of v ino is within = let count = is.inode_count in get_there v.inodes ino.0 free_inode (omega arith)
 
-pub reap_is : (v : Volume) (ino : Ino) (e : Edit) → e ≡ reap_of ino → IsVolume v → ino.0 ≤ 511 → is_orphan (inode_at v.inodes ino.0) ≡ true → IsEdit v e
+pub reap_is : (v : Volume) (ino : Ino) (e : Edit) → e ≡ reap_of ino → IsVolume v → ino.0 < limits.inodes → is_orphan (inode_at v.inodes ino.0) ≡ true → IsEdit v e
 reap_is v ino e same is within orphan = subst (IsEdit v) (sym same) (reap_edits v ino (inode_at v.inodes ino.0) is (there_of v ino is within) (file_of v ino orphan))
 
-pub reap_stands : (sectors : List (List ℕ)) (v : Volume) (history : List Entry) (ino : Ino) (e : Edit) (homes : List (ℕ × List ℕ)) → e ≡ reap_of ino → AreHomes v e homes → Mounted sectors v history → ino.0 ≤ 511 → is_orphan (inode_at v.inodes ino.0) ≡ true → node_at (tree_of history) ino ≡ None
+pub reap_stands : (sectors : List (List ℕ)) (v : Volume) (history : List Entry) (ino : Ino) (e : Edit) (homes : List (ℕ × List ℕ)) → e ≡ reap_of ino → AreHomes v e homes → Mounted sectors v history → ino.0 < limits.inodes → is_orphan (inode_at v.inodes ino.0) ≡ true → node_at (tree_of history) ino ≡ None
     → StandsForHistory (written sectors homes) (edited v e) history
 reap_stands sectors v history ino e homes same are m within orphan gone =
     subst (λ (o : Edit). StandsForHistory (written sectors homes) (edited v o) history) (sym same)
     (reaping_stands sectors v history ino (inode_at v.inodes ino.0) homes m (there_of v ino m.volume within) (file_of v ino orphan) gone (subst (λ (o : Edit). AreHomes v o homes) same are))
 
-pub flush_is : (v : Volume) (client : ClientId) (flush : Flush) (e : Edit) → e ≡ flush_of v client flush → IsVolume v → client.0 < 16 → flush.number < 2 ^ 64 → IsFlush flush → (inode_at v.inodes flush.ino.0).kind ≡ File → length flush.pieces ≤ free_count v → IsEdit v e
+pub flush_is : (v : Volume) (client : ClientId) (flush : Flush) (e : Edit) → e ≡ flush_of v client flush → IsVolume v → client.0 < limits.clients → flush.number < 2 ^ 64 → IsFlush flush → (inode_at v.inodes flush.ino.0).kind ≡ File → length flush.pieces ≤ free_count v → IsEdit v e
 flush_is v client flush e same is known fits flushes file enough = subst (IsEdit v) (sym same)
     (flush_edits_by (replicate {A = List ℕ} 2596 []) v client flush (record { count = length-replicate {A = List ℕ} 2596 []; volume = is; is = flushes; file = file; enough = enough }) known fits)
 

@@ -1,5 +1,6 @@
 -- The bytes of a file, block by block.
 use Rattle.std.proofs.Common.{◌≡◌, ◌≢◌, ◌⊎◌, ◌≤◌, ◌<◌, ◌+◌, ◌-◌, ◌*◌, ◌/◌, ◌%◌, ◌==◌, if◌then◌else◌, ℕ, zero, suc, List, [], ◌∷◌, length, take, drop, get_or, nat_eq, replicate, slice_index, refl, sym, ap, ◌∙◌, subst, arith, inl, inr, length-append, length-take}
+use Rattle.cal_base.specs.Limits as limits
 use Rattle.std.specs.List.{slice_set}
 use Rattle.std.proofs.Math.ListN.{length-set}
 use Rattle.std.proofs.lemmas.Bool.{cases_eq, cases_lt, cond-false, cond-true, eq-eqb, ne_eqb}
@@ -144,7 +145,7 @@ inode_fits inode is = kind_fits inode.kind inode is.allowed
     kind_fits Dir inode h = (let s = h.size in omega arith)
 
 -- a block that was read, with the writes laid over it
-pub behind_holds : (s : List (List ℕ)) (ws : List (ℕ × List ℕ)) (pointer : ℕ) (read bytes : List ℕ) → length s ≡ 2596 → pointer ≤ 2048 → read ≡ pointed s pointer → bytes ≡ laid ws (547 + pointer) read → pointer ≢ 0
+pub behind_holds : (s : List (List ℕ)) (ws : List (ℕ × List ℕ)) (pointer : ℕ) (read bytes : List ℕ) → length s ≡ limits.sectors → pointer ≤ 2048 → read ≡ pointed s pointer → bytes ≡ laid ws (547 + pointer) read → pointer ≢ 0
     → HoldsBlock (written s ws) pointer bytes
 behind_holds s ws pointer read bytes long small is over some =
     read_holds (written s ws) pointer bytes (over ∙ ap (laid ws (547 + pointer)) is ∙ sym (sector_laid ws s (547 + pointer) (omega arith))) some

@@ -1,5 +1,6 @@
 -- A flush's data and pointers, one piece after another.
 use Rattle.std.proofs.Common.{◌≡◌, ◌⊎◌, ◌≤◌, ◌<◌, ◌+◌, ◌++◌, ◌∙◌, ℕ, zero, suc, Bool, true, false, List, [], ◌∷◌, length, take, get_or, slice_get, slice_set, Some, refl, sym, ap, subst, arith, inl, inr, length-append, min, replicate, ◌-◌, All}
+use Rattle.cal_base.specs.Limits as limits
 use Rattle.std.proofs.lemmas.Bool.{cases_lt}
 use Rattle.std.proofs.lemmas.List.{length-replicate, length-set, length-take}
 use Rattle.std.proofs.lemmas.Option.{slice_get_within}
@@ -98,10 +99,10 @@ none_free low (false ∷ free) none = none_free (suc low) free (λ block h. none
 -- so many blocks are taken, and these are the free blocks without them
 pub record AreTaken (all left : List Bool) (taken : List ℕ) (count : ℕ) : Type 0 where
   pub rest : free_from 0 all ≡ taken ++ free_from 0 left
-  pub long : length left ≡ 2048
+  pub long : length left ≡ limits.blocks
   pub sized : length taken ≡ count
 
-pub taken_none : (all left : List Bool) (taken : List ℕ) → length all ≡ 2048 → left ≡ all → taken ≡ [] → AreTaken all left taken 0
+pub taken_none : (all left : List Bool) (taken : List ℕ) → length all ≡ limits.blocks → left ≡ all → taken ≡ [] → AreTaken all left taken 0
 taken_none all left taken long same none = record { rest = ap (free_from 0) (sym same) ∙ ap (λ (xs : List ℕ). xs ++ free_from 0 left) (sym none); long = ap length same ∙ long; sized = ap length none }
 
 append_one : (xs ys : List ℕ) (x : ℕ) → xs ++ (x ∷ ys) ≡ (xs ++ x ∷ []) ++ ys
@@ -134,7 +135,7 @@ take_past (x ∷ xs) (suc n) e = ap (λ (zs : List ℕ). x ∷ zs) (take_past xs
 pub taken_all : (all left : List Bool) (taken : List ℕ) (so_far count : ℕ) → AreTaken all left taken so_far → so_far ≡ count → taken ≡ take count (free_from 0 all)
 taken_all all left taken so_far count are e = sym (ap (take count) are.rest ∙ take_front taken (free_from 0 left) count (are.sized ∙ e))
 
-pub taken_last : (all left : List Bool) (taken : List ℕ) (so_far count : ℕ) → AreTaken all left taken so_far → so_far ≤ count → ((block : ℕ) → block < 2048 → slice_get left block ≡ Some false) → taken ≡ take count (free_from 0 all)
+pub taken_last : (all left : List Bool) (taken : List ℕ) (so_far count : ℕ) → AreTaken all left taken so_far → so_far ≤ count → ((block : ℕ) → block < limits.blocks → slice_get left block ≡ Some false) → taken ≡ take count (free_from 0 all)
 taken_last all left taken so_far count are few none =
     let long = are.long in
     let sized = are.sized in
@@ -146,8 +147,8 @@ blocks_below free low [] are k d below = absurd (omega arith)
 blocks_below free low (block ∷ blocks) are zero d below = slice_get_within free block true are.1
 blocks_below free low (block ∷ blocks) are (suc k) d below = blocks_below free (suc block) blocks are.2 k d (omega arith)
 
-pub blocks_small : (v : Volume) (flush : Flush) (blocks : List ℕ) → length v.free ≡ 2048 → blocks ≡ blocks_for v flush → All (λ block. block < 2048) blocks
-blocks_small v flush blocks long same = subst (λ (xs : List ℕ). All (λ block. block < 2048) xs) (sym same)
+pub blocks_small : (v : Volume) (flush : Flush) (blocks : List ℕ) → length v.free ≡ limits.blocks → blocks ≡ blocks_for v flush → All (λ block. block < limits.blocks) blocks
+blocks_small v flush blocks long same = subst (λ (xs : List ℕ). All (λ block. block < limits.blocks) xs) (sym same)
     (λ k d below. (let h = blocks_below v.free 0 (blocks_for v flush) (least_are_free v.free (length flush.pieces)) k d below in omega (arith, h, long)))
 
 -- the pieces of a flush are of a file's blocks
@@ -156,7 +157,7 @@ index_below least end [] rising k d below = absurd (omega arith)
 index_below least end (piece ∷ pieces) rising zero d below = rising.1
 index_below least end (piece ∷ pieces) rising (suc k) d below = index_below (piece.0 + 1) end pieces rising.2 k d (omega arith)
 
-pub pieces_within : (flush : Flush) (pieces : List (ℕ × List ℕ)) (pointers : List ℕ) → IsFlush flush → pieces ≡ flush.pieces → length pointers ≡ 64 → All (λ piece. piece.0 < length pointers) pieces
+pub pieces_within : (flush : Flush) (pieces : List (ℕ × List ℕ)) (pointers : List ℕ) → IsFlush flush → pieces ≡ flush.pieces → length pointers ≡ limits.file_blocks → All (λ piece. piece.0 < length pointers) pieces
 pieces_within flush pieces pointers is same long = subst (λ (xs : List (ℕ × List ℕ)). All (λ piece. piece.0 < length pointers) xs) (sym same)
     (λ k d below. (let h = index_below 0 (block_count flush.size) flush.pieces (rising_by 0 (block_count flush.size) flush.pieces is.rising) k d below in let s = is.size in omega (arith, h, s, long)))
 

@@ -1,5 +1,6 @@
 -- The volume of a fresh format is one, and what is kept of it is right.
 use Rattle.std.proofs.Common.{◌≡◌, ◌≤◌, ◌<◌, ℕ, zero, suc, true, false, List, [], ◌∷◌, Some, length, replicate, slice_get, refl, sym, ap, arith, get_or, subst}
+use Rattle.cal_base.specs.Limits as limits
 use Rattle.std.proofs.lemmas.List.{length-replicate}
 use Rattle.std.proofs.lemmas.Option.{get_or_from_slice_get}
 use Rattle.directory.specs.Directory.{IsDirectory}
@@ -21,7 +22,7 @@ at_each zero place a = refl
 at_each (suc n) zero a = refl
 at_each (suc n) (suc place) a = at_each n place a
 
-map_count : length fresh_map ≡ 2048
+map_count : length fresh_map ≡ limits.blocks
 unfolding fresh_map
 map_count = length-replicate 2048 true
 
@@ -29,11 +30,11 @@ pub slot_count : length fresh_slots ≡ 16
 unfolding fresh_slots
 slot_count = length-replicate 16 first_slot
 
-pub inode_count : length fresh_inodes ≡ 512
+pub inode_count : length fresh_inodes ≡ limits.inodes
 unfolding fresh_inodes
 inode_count = let l = length-replicate {A = Inode} 511 free_inode in omega arith
 
-pub directory_count : length no_directories ≡ 512
+pub directory_count : length no_directories ≡ limits.inodes
 unfolding no_directories
 directory_count = length-replicate {A = Slots} 512 []
 
@@ -51,7 +52,7 @@ get_free number inode e = get_same 511 number free_inode inode e
 
 get_root : (inode : Inode) → slice_get fresh_inodes 0 ≡ Some inode → inode ≡ root_inode
 unfolding fresh_inodes
-get_root inode e = sym (get_or_from_slice_get (root_inode ∷ replicate 511 free_inode) 0 inode inode e)
+get_root inode e = sym (get_or_from_slice_get (root_inode ∷ replicate limits.last_inode free_inode) 0 inode inode e)
 
 inode_is : (number : ℕ) (inode : Inode) → slice_get fresh_inodes number ≡ Some inode → IsInode inode
 inode_is zero inode e = subst IsInode (sym (get_root inode e)) root_is
@@ -91,7 +92,7 @@ unfolding fresh_inodes
 root_taken zero h = refl
 root_taken (suc number) h = absurd (omega arith)
 
-free_at : (number : ℕ) → inode_at (replicate 511 free_inode) number ≡ free_inode
+free_at : (number : ℕ) → inode_at (replicate limits.last_inode free_inode) number ≡ free_inode
 free_at number = at_each 511 number free_inode
 
 no_orphan : (number : ℕ) → is_orphan (inode_at fresh_inodes number) ≡ false

@@ -1,5 +1,6 @@
 -- A format's sectors stand for the empty history by the fresh volume.
 use Rattle.std.proofs.Common.{◌≡◌, ◌≤◌, ◌<◌, ◌∙◌, ℕ, zero, suc, Bool, true, List, [], ◌∷◌, length, replicate, get_or, slice_set, Result, Ok, Err, Some, refl, ap, subst, arith}
+use Rattle.cal_base.specs.Limits as limits
 use Rattle.std.specs.Prelude.{OnOk}
 use Rattle.fence.proofs.RunsLemmas.{all_after}
 use Rattle.fence.specs.Port.{PortState}
@@ -41,12 +42,12 @@ same_map = map_of_free
 first_is_fresh : (clients : ℕ) → first_volume clients ≡ fresh_volume clients
 first_is_fresh clients = λ i. record { clients = clients; free = same_map i; slots = same_slots i; inodes = same_inodes i; directories = same_directories i }
 
-fresh_stands : (x : List (List ℕ)) (clients : ℕ) → length x ≡ 2596 → 1 ≤ clients → clients ≤ 16 → StandsForHistory (outside (written x (format_writes clients))) (fresh_volume clients) []
+fresh_stands : (x : List (List ℕ)) (clients : ℕ) → length x ≡ limits.sectors → 1 ≤ clients → clients ≤ 16 → StandsForHistory (outside (written x (format_writes clients))) (fresh_volume clients) []
 fresh_stands x clients whole some few = subst (λ (v : Volume). StandsForHistory (outside (written x (format_writes clients))) v []) (first_is_fresh clients) (first_stands x clients whole some few)
 
 -- a whole run of the format's writes
 pub run_fresh : (x : List (List ℕ)) (clients : ℕ) (p : PortState) (d : Disk) (f : ℕ) (r : Result (Unit {0}) PortHalt) (p' : PortState) (d' : Disk) (f' : ℕ)
-    → Runs p d f (format_writes clients) r p' d' f' → d.sectors ≡ Some x → length x ≡ 2596 → 1 ≤ clients → clients ≤ 16 → OnOk r (TellsFresh d' clients)
+    → Runs p d f (format_writes clients) r p' d' f' → d.sectors ≡ Some x → length x ≡ limits.sectors → 1 ≤ clients → clients ≤ 16 → OnOk r (TellsFresh d' clients)
 run_fresh x clients p d f (Ok done) p' d' f' a told whole some few = record {
   sectors = written x (format_writes clients);
   told = told_after x (format_writes clients) d d' told (all_after (format_writes clients) p d p' d' a.makes);
@@ -68,9 +69,9 @@ all_same {A = A} (x ∷ xs) a d same =
 -- the root before the others
 set_root : (inode : Inode) → inode ≡ root_inode → slice_set (replicate 512 free_inode) 0 inode ≡ fresh_inodes
 unfolding fresh_inodes
-set_root inode is = ap (λ (r : Inode). r ∷ replicate 511 free_inode) is
+set_root inode is = ap (λ (r : Inode). r ∷ replicate limits.last_inode free_inode) is
 
-pub root_put : (inodes : List Inode) (count : ℕ) (inode : Inode) → inodes ≡ replicate count free_inode → count ≡ 512 → inode ≡ root_inode → slice_set inodes 0 inode ≡ fresh_inodes
+pub root_put : (inodes : List Inode) (count : ℕ) (inode : Inode) → inodes ≡ replicate count free_inode → count ≡ limits.inodes → inode ≡ root_inode → slice_set inodes 0 inode ≡ fresh_inodes
 root_put inodes count inode all size is = ap (λ (xs : List Inode). slice_set xs 0 inode) (all ∙ ap (λ (n : ℕ). replicate n free_inode) size) ∙ set_root inode is
 
 -- the parts of the fresh volume

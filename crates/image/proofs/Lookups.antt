@@ -1,5 +1,6 @@
 -- What is found in a volume.
 use Rattle.std.proofs.Common.{◌≡◌, ◌≤◌, ◌<◌, ℕ, Bool, true, false, List, Some, None, length, get_or, refl, inl, inr, arith}
+use Rattle.cal_base.specs.Limits as limits
 use Rattle.std.proofs.lemmas.Bool.{cases_lt}
 use Rattle.std.proofs.lemmas.Option.{slice_get-get_or, slice_get_read}
 use Rattle.std.specs.List.{position}
@@ -10,10 +11,10 @@ use Rattle.volume.specs.Volume.{Volume}
 use Rattle.volume_edit.specs.Edit.{IsVolume, free_inode, inode_at}
 use Rattle.image.specs.Image.{IsNoneBefore, is_free_inode}
 
-pub inode_within : (v : Volume) (number : ℕ) → IsVolume v → number ≤ 511 → IsInode (inode_at v.inodes number)
+pub inode_within : (v : Volume) (number : ℕ) → IsVolume v → number < limits.inodes → IsInode (inode_at v.inodes number)
 inode_within v number is below = is.inodes number (inode_at v.inodes number) (slice_get-get_or v.inodes number free_inode (let n = is.inode_count in omega arith))
 
-pub inode_read : (v : Volume) (number : ℕ) (inode : Inode) → IsVolume v → number ≤ 511 → inode ≡ get_or v.inodes number inode → IsInode inode
+pub inode_read : (v : Volume) (number : ℕ) (inode : Inode) → IsVolume v → number < limits.inodes → inode ≡ get_or v.inodes number inode → IsInode inode
 inode_read v number inode is below read = is.inodes number inode (slice_get_read v.inodes (length v.inodes) number inode refl (let n = is.inode_count in omega arith) read)
 
 -- none before a hint, and none from there to a place, is none before the place

@@ -1,5 +1,6 @@
 -- Parts that were read are a volume that the sectors spell.
 use Rattle.std.proofs.Common.{◌≡◌, ◌≤◌, ◌<◌, ◌+◌, ◌-◌, ◌*◌, ◌/◌, ◌++◌, ℕ, zero, suc, Bool, List, [], ◌∷◌, length, take, drop, replicate, get_or, slice_get, slice_index, Some, refl, sym, ap, ◌∙◌, subst, arith, inl, inr, length-append, length-drop, Vec, Result, Ok, Err, OnOk}
+use Rattle.cal_base.specs.Limits as limits
 use Rattle.std.specs.Vec.{with_items}
 use Rattle.std.proofs.lemmas.Bool.{cases_lt}
 use Rattle.std.proofs.lemmas.List.{drop-append-le, drop_at, get_or-append_right, get_or-drop, take-append-le, take_all, with_items_is}
@@ -100,7 +101,7 @@ parts_of v free orphan image =
 
 -- parts of the right count are a volume
 module _ (clients : ℕ) (free : List Bool) (slots : List Slot) (inodes : List Inode) (directories : List Slots)
-    (slot_count : length slots ≡ 16) (inode_count : length inodes ≡ 512) (directory_count : length directories ≡ 512)
+    (slot_count : length slots ≡ 16) (inode_count : length inodes ≡ limits.inodes) (directory_count : length directories ≡ limits.inodes)
     (parts : AreParts clients free slots inodes directories) where
   v : Volume
   v = record { clients = clients; free = free; slots = slots; inodes = inodes; directories = directories }
@@ -160,7 +161,7 @@ length-free_blocks (byte ∷ bytes) =
     let rest = length-free_blocks bytes in
     omega (arith, length-append (free_bits 8 byte) (free_blocks bytes))
 
-pub map_whole : (bytes : List ℕ) (free : List Bool) → SpellsMap bytes free → length free ≡ 2048
+pub map_whole : (bytes : List ℕ) (free : List Bool) → SpellsMap bytes free → length free ≡ limits.blocks
 map_whole bytes free spells = (let count = spells.count in ap length spells.blocks ∙ length-free_blocks spells.bytes ∙ ap (λ (n : ℕ). 8 * n) count)
 
 -- the parts of an image before and after, each behind a loan of its vector

@@ -1,5 +1,6 @@
 -- A move that the tree of an image allows is between directories of the image.
-use Rattle.std.proofs.Common.{◌≡◌, ◌≤◌, ◌<◌, ℕ, false, List, length, Option, Some, None, IfSome, Ok, ap, ◌∙◌}
+use Rattle.std.proofs.Common.{◌≡◌, ◌<◌, ℕ, false, List, length, Option, Some, None, IfSome, Ok, ap, arith, ◌∙◌}
+use Rattle.cal_base.specs.Limits as limits
 use Rattle.cal_base.specs.declared.identity.Ino.{Ino}
 use Rattle.tree_law.specs.Rename.{move_of}
 use Rattle.tree_law.specs.Resolve.{last_of}
@@ -17,13 +18,13 @@ use Rattle.volume_plan.proofs.RenameEdits.{is_there}
 
 -- the directories and the target of a move are inodes, and its entry stands
 pub record Shifts (v : Volume) (move : Move) (name : List ℕ) : Type 0 where
-  pub from : move.from.0 ≤ 511
-  pub to : move.to.0 ≤ 511
-  pub target : IfSome move.replaced (λ ino. ino.0 ≤ 511)
+  pub from : move.from.0 < limits.inodes
+  pub to : move.to.0 < limits.inodes
+  pub target : IfSome move.replaced (λ ino. ino.0 < limits.inodes)
   pub within : place_of (slots_of v move.from.0) name < length (slots_of v move.from.0)
 
-target_within : (v : Volume) (move : Move) (goal : List ℕ) (target : Option Ino) → Lands v move goal target → IfSome target (λ ino. ino.0 ≤ 511)
-target_within v move goal (Some ino) lands = (entry_is v move.to goal ino lands.named).to_511
+target_within : (v : Volume) (move : Move) (goal : List ℕ) (target : Option Ino) → Lands v move goal target → IfSome target (λ ino. ino.0 < limits.inodes)
+target_within v move goal (Some ino) lands = (let few = (entry_is v move.to goal ino lands.named).to_511 in omega arith)
 target_within v move goal None lands = tt
 
 pub shifts : (v : Volume) (path goal : List (List ℕ)) (move : Move) → IsVolume v → if_there v (move_of (shown v) path goal) ≡ Ok move → move.is_same ≡ false → Shifts v move (last_of path)

@@ -1,5 +1,6 @@
 -- Volumes that the same sectors spell stand for the same histories.
-use Rattle.std.proofs.Common.{◌≡◌, ◌↔◌, ◌≤◌, ℕ, Bool, false, List, [], ◌∷◌, length, drop, replicate, slice_get, Option, Some, None, sym, ◌∙◌, subst, arith, length-append, length-drop}
+use Rattle.std.proofs.Common.{◌<◌, ◌≡◌, ◌↔◌, ℕ, Bool, false, List, [], ◌∷◌, length, drop, replicate, slice_get, Option, Some, None, sym, ◌∙◌, subst, arith, length-append, length-drop}
+use Rattle.cal_base.specs.Limits as limits
 use Rattle.std.proofs.lemmas.List.{ext_get_or, length-replicate}
 use Rattle.std.proofs.lemmas.Option.{slice_get-get_or}
 use Rattle.cal_base.specs.declared.identity.Ino.{Ino}
@@ -48,7 +49,7 @@ same_history s a b history spells stands =
       clients = λ client slot at. stands.clients client slot (subst (λ (ss : List Slot). slice_get ss client.0 ≡ Some slot) (sym same.slots) at);
     }
 
-outside_long : (s : List (List ℕ)) → length s ≡ 2596 → length (outside s) ≡ 2596
+outside_long : (s : List (List ℕ)) → length s ≡ limits.sectors → length (outside s) ≡ limits.sectors
 outside_long [] long = absurd (omega arith)
 outside_long (head ∷ rest) long =
     let blanks = length-append (replicate {A = List ℕ} 18 []) (drop 18 rest) in
@@ -68,7 +69,7 @@ stands_outside s history replays stands =
 pub undamaged : (s : List (List ℕ)) (history : List Entry) (at : ℕ) → replayed s ≡ Some (outside s) → Stands s history → IsDamage s at → ⊥
 undamaged s history at replays stands damage = no_volume s at damage stands.volume (stands_outside s history replays stands).spells
 
-pub mounted : (s : List (List ℕ)) (v : Volume) (history : List Entry) → length s ≡ 2596 → replayed s ≡ Some (outside s) → Stands s history → IsLegal history → IsVolume v → SpellsVolume (outside s) v
+pub mounted : (s : List (List ℕ)) (v : Volume) (history : List Entry) → length s ≡ limits.sectors → replayed s ≡ Some (outside s) → Stands s history → IsLegal history → IsVolume v → SpellsVolume (outside s) v
     → Mounted (outside s) v history
 mounted s v history long replays stands legal volume spells = record {
   count = outside_long s long;
@@ -77,7 +78,7 @@ mounted s v history long replays stands legal volume spells = record {
   legal = legal;
 }
 
-pub read_is_kept : (s : List (List ℕ)) (v : Volume) (history : List Entry) (ino : Ino) (file : FileState) (bytes : List ℕ) → StandsForHistory s v history → ino.0 ≤ 511 → node_at (tree_of history) ino ≡ Some (Regular file)
+pub read_is_kept : (s : List (List ℕ)) (v : Volume) (history : List Entry) (ino : Ino) (file : FileState) (bytes : List ℕ) → StandsForHistory s v history → ino.0 < limits.inodes → node_at (tree_of history) ino ≡ Some (Regular file)
     → length bytes ≡ (inode_at v.inodes ino.0).size → AreFirstBytes s (inode_at v.inodes ino.0) bytes → bytes ≡ file.kept
 read_is_kept s v history ino file bytes stands small there size first =
     let count = stands.spells.inode_count in

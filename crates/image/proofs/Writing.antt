@@ -1,5 +1,6 @@
 -- The homes of an edit, put one behind the other, are those of the edit.
 use Rattle.std.proofs.Common.{◌≡◌, ◌<◌, ◌++◌, ◌∙◌, ℕ, List, [], ◌∷◌, Option, Some, None, sym, ap, subst, arith}
+use Rattle.cal_base.specs.Limits as limits
 use Rattle.std.specs.Prelude.{IfSome}
 use Rattle.std.proofs.lemmas.List.{append_assoc}
 use Rattle.volume.specs.Volume.{Volume}
@@ -33,11 +34,11 @@ are_homes v e a b c d homes none map slot inode block =
     let all = adds_then w (map_parts v e) _ a b homes map (adds_then w (slot_parts e.slot) _ b c homes slot (adds_then w (inode_parts v e) (block_parts v e) c d homes inode block)) in
     record { spell = subst (λ (xs : List (ℕ × List ℕ)). Spell w (parts v e) xs) (sym (all.put ∙ ap (λ (xs : List (ℕ × List ℕ)). xs ++ all.homes) none)) all.spell }
 
-pub leaving_is_low : (v : Volume) (e : Edit) (o : Option Leaving) → IsVolume v → IfSome o (IsLeaving v e) → IfSome o (λ (l : Leaving). l.place < 1024)
+pub leaving_is_low : (v : Volume) (e : Edit) (o : Option Leaving) → IsVolume v → IfSome o (IsLeaving v e) → IfSome o (λ (l : Leaving). l.place < limits.directory_entries)
 leaving_is_low v e None h of = tt
 leaving_is_low v e (Some l) h of = let few = (each_directory v h l.directory.0).few in let low = of.within in omega arith
 
-pub entering_is_low : (v : Volume) (e : Edit) (o : Option Entering) → IsVolume v → IsEdit v e → IfSome o (IsEntering v e) → IfSome o (λ (n : Entering). n.place < 1024)
+pub entering_is_low : (v : Volume) (e : Edit) (o : Option Entering) → IsVolume v → IsEdit v e → IfSome o (IsEntering v e) → IfSome o (λ (n : Entering). n.place < limits.directory_entries)
 entering_is_low v e None h is of = tt
 entering_is_low v e (Some n) h is of =
     let few = (each_directory_edited v e h is n.directory.0).few in
@@ -50,7 +51,7 @@ leaving_is_home v e (Some l) h is of =
     let live = leaving_live v e l h is of in
     let few = (each_directory_edited v e h is l.directory.0).few in
     let low = live.within in
-    record { to_511 = of.directory.to_511; stays = of.directory.stays; few = omega arith; there = low }
+    record { to_511 = (let few = of.directory.to_511 in omega arith); stays = of.directory.stays; few = omega arith; there = low }
 
 pub entering_is_home : (v : Volume) (e : Edit) (o : Option Entering) → IsVolume v → IsEdit v e → IfSome o (IsEntering v e) → IfSome (entering_home o) (IsHome v e)
 entering_is_home v e None h is of = tt
@@ -58,4 +59,4 @@ entering_is_home v e (Some n) h is of =
     let live = entering_live v e n h is of in
     let few = (each_directory_edited v e h is n.directory.0).few in
     let low = live.within in
-    record { to_511 = of.directory.to_511; stays = of.directory.stays; few = omega arith; there = low }
+    record { to_511 = (let few = of.directory.to_511 in omega arith); stays = of.directory.stays; few = omega arith; there = low }

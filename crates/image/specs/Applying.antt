@@ -1,5 +1,6 @@
 -- When the parts of an edit can be made, one after the other.
-use Rattle.std.specs.Prelude.{◌≡◌, ◌<◌, ◌≤◌, ℕ, List, [], length, slice_index_or, IfSome}
+use Rattle.std.specs.Prelude.{◌+◌, ◌≡◌, ◌<◌, ◌≤◌, ℕ, List, [], length, slice_index_or, IfSome}
+use Rattle.cal_base.specs.Limits as limits
 use Rattle.change_reply.specs.ReplyBytes.{IsChangeReply}
 use Rattle.directory.specs.Block.{IsEntry}
 use Rattle.directory.specs.Directory.{IsAlone}
@@ -21,7 +22,7 @@ slots_at directories number = slice_index_or directories number []
 -- a directory has room for a block
 pub record CanGrow (directories : List Slots) (g : Growth) : Type 0 where
   pub within : g.directory.0 < length directories
-  pub fewer : length (slots_at directories g.directory.0) < 1024
+  pub fewer : length (slots_at directories g.directory.0) < limits.directory_entries
 
 -- a directory has the place of the entry that goes
 pub record CanLeave (directories : List Slots) (l : Leaving) : Type 0 where
@@ -53,14 +54,14 @@ pub record CanPut (inodes : List Inode) (e : InodeEdit) : Type 0 where
 
 pub record CanMark (inodes : List Inode) (e : Edit) : Type 0 where
   pub inode : IfSome e.inode (CanPut inodes)
-  pub growth : IfSome e.growth (λ (g : Growth). g.block < 2048)
+  pub growth : IfSome e.growth (λ (g : Growth). g.block < limits.blocks)
 
 -- a directory's inode can get a block more
 pub record CanGrowInode (inodes : List Inode) (g : Growth) : Type 0 where
   pub within : g.directory.0 < length inodes
-  pub size : (inode_at inodes g.directory.0).size ≤ 28672
-  pub count : length (inode_at inodes g.directory.0).blocks ≡ 64
-  pub block : g.block < 2048
+  pub size : (inode_at inodes g.directory.0).size + limits.block_size ≤ limits.directory_size
+  pub count : length (inode_at inodes g.directory.0).blocks ≡ limits.file_blocks
+  pub block : g.block < limits.blocks
 
 pub record CanChangeInodes (inodes : List Inode) (e : Edit) : Type 0 where
   pub inode : IfSome e.inode (λ (i : InodeEdit). i.ino.0 < length inodes)

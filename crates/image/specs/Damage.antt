@@ -1,5 +1,7 @@
 -- Which sector a mount calls damaged: the first that is outside its grammar.
-use Rattle.std.specs.Prelude.{◌≡◌, ◌<◌, ◌+◌, ◌/◌, ℕ, zero, suc, Bool, List, [], slice_index}
+use Rattle.std.specs.Prelude.{◌≡◌, ◌<◌, ◌/◌, ℕ, zero, suc, Bool, List, [], slice_index}
+use Rattle.cal_base.specs.Limits as limits
+use Rattle.shared_disk.specs.Map.{at_head, at_map, at_slot, at_inode, at_pointer}
 use Rattle.directory.specs.Directory.{Continues}
 use Rattle.inode.specs.Inode.{SpellsInode}
 use Rattle.inode.specs.declared.inode.Inode.{Inode}
@@ -28,25 +30,25 @@ IsRootDir number inode = number ≡ 0 → inode.kind ≡ Dir
 -- the head, the map, a client's slot and an inode are in their grammar; the root is a directory
 pub record HasHead (sectors : List (List ℕ)) : Type 0 where
   pub clients : ℕ
-  pub spelled : SpellsHead (sector sectors 0) clients
+  pub spelled : SpellsHead (sector sectors at_head) clients
 
 pub record HasMap (sectors : List (List ℕ)) : Type 0 where
   pub free : List Bool
-  pub spelled : SpellsMap (sector sectors 19) free
+  pub spelled : SpellsMap (sector sectors at_map) free
 
 pub record HasSlot (sectors : List (List ℕ)) (client : ℕ) : Type 0 where
   pub slot : Slot
-  pub spelled : SpellsSlot (sector sectors (20 + client)) slot
+  pub spelled : SpellsSlot (sector sectors (at_slot client)) slot
 
 pub record HasInode (sectors : List (List ℕ)) (number : ℕ) : Type 0 where
   pub inode : Inode
-  pub spelled : SpellsInode (sector sectors (36 + number)) inode
+  pub spelled : SpellsInode (sector sectors (at_inode number)) inode
   pub root : IsRootDir number inode
 
 -- an inode and its directory were read
 pub record IsNodeRead (sectors : List (List ℕ)) (number : ℕ) (inode : Inode) (slots : Slots) : Type 0 where
-  pub spelled : SpellsInode (sector sectors (36 + number)) inode
-  pub blocks : inode.kind ≡ Dir → Loads sectors inode (inode.size / 4096) slots
+  pub spelled : SpellsInode (sector sectors (at_inode number)) inode
+  pub blocks : inode.kind ≡ Dir → Loads sectors inode (inode.size / limits.block_size) slots
 
 -- the blocks of an inode's directory are in their grammar, if it is one
 pub record HasBlocks (sectors : List (List ℕ)) (number : ℕ) : Type 0 where
@@ -56,28 +58,28 @@ pub record HasBlocks (sectors : List (List ℕ)) (number : ℕ) : Type 0 where
 
 -- the head, the map, this client's slot or this inode is outside its grammar
 abbrev pub LacksHead : List (List ℕ) → ℕ → Type 0
-LacksHead sectors at = (at ≡ 0) × (HasHead sectors → ⊥)
+LacksHead sectors at = (at ≡ at_head) × (HasHead sectors → ⊥)
 
 abbrev pub LacksMap : List (List ℕ) → ℕ → Type 0
-LacksMap sectors at = (at ≡ 19) × (HasMap sectors → ⊥)
+LacksMap sectors at = (at ≡ at_map) × (HasMap sectors → ⊥)
 
 abbrev pub LacksSlot : ℕ → List (List ℕ) → ℕ → Type 0
-LacksSlot client sectors at = (at ≡ 20 + client) × (HasSlot sectors client → ⊥)
+LacksSlot client sectors at = (at ≡ at_slot client) × (HasSlot sectors client → ⊥)
 
 abbrev pub LacksInode : ℕ → List (List ℕ) → ℕ → Type 0
-LacksInode number sectors at = (at ≡ 36 + number) × (HasInode sectors number → ⊥)
+LacksInode number sectors at = (at ≡ at_inode number) × (HasInode sectors number → ⊥)
 
 -- the block at a pointer doesn't continue a directory
 abbrev pub BreaksOff : Slots → ℕ → List (List ℕ) → ℕ → Type 0
-BreaksOff before pointer sectors at = (at ≡ 547 + pointer) × ((slots : Slots) → Continues before (pointed sectors pointer) slots → ⊥)
+BreaksOff before pointer sectors at = (at ≡ at_pointer pointer) × ((slots : Slots) → Continues before (pointed sectors pointer) slots → ⊥)
 
 -- a block of this inode's directory doesn't continue the blocks before it
 pub record LacksBlock (number : ℕ) (sectors : List (List ℕ)) (at : ℕ) : Type 0 where
   pub inode : Inode
-  pub spelled : SpellsInode (sector sectors (36 + number)) inode
+  pub spelled : SpellsInode (sector sectors (at_inode number)) inode
   pub kind : inode.kind ≡ Dir
   pub block : ℕ
-  pub within : block < inode.size / 4096
+  pub within : block < inode.size / limits.block_size
   pub before : Slots
   pub loaded : Loads sectors inode block before
   pub off : BreaksOff before (slice_index inode.blocks block) sectors at
@@ -85,27 +87,27 @@ pub record LacksBlock (number : ℕ) (sectors : List (List ℕ)) (at : ℕ) : Ty
 -- the first slot, the first inode, and by inode the first block of a directory that is outside its grammar
 pub record FirstSlot (sectors : List (List ℕ)) (at : ℕ) : Type 0 where
   pub client : ℕ
-  pub within : client < 16
+  pub within : client < limits.clients
   pub before : (lower : ℕ) → lower < client → HasSlot sectors lower
   pub lacks : LacksSlot client sectors at
 
 pub record FirstInode (sectors : List (List ℕ)) (at : ℕ) : Type 0 where
   pub number : ℕ
-  pub within : number < 512
+  pub within : number < limits.inodes
   pub before : (lower : ℕ) → lower < number → HasInode sectors lower
   pub lacks : LacksInode number sectors at
 
 pub record FirstBlock (sectors : List (List ℕ)) (at : ℕ) : Type 0 where
   pub number : ℕ
-  pub within : number < 512
+  pub within : number < limits.inodes
   pub before : (lower : ℕ) → lower < number → HasBlocks sectors lower
   pub lacks : LacksBlock number sectors at
 
 abbrev pub HasAllSlots : List (List ℕ) → Type 0
-HasAllSlots sectors = (client : ℕ) → client < 16 → HasSlot sectors client
+HasAllSlots sectors = (client : ℕ) → client < limits.clients → HasSlot sectors client
 
 abbrev pub HasAllInodes : List (List ℕ) → Type 0
-HasAllInodes sectors = (number : ℕ) → number < 512 → HasInode sectors number
+HasAllInodes sectors = (number : ℕ) → number < limits.inodes → HasInode sectors number
 
 -- the first inode or block that is outside its grammar, where all inodes come before the blocks
 pub data FirstNode (sectors : List (List ℕ)) (at : ℕ) : Type 0 where

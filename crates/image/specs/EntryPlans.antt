@@ -1,5 +1,6 @@
 -- What the plans of purges, reapings and flushes, and a fresh format, promise of the sectors.
 use Rattle.std.specs.Prelude.{◌≡◌, ◌∷◌, [], ℕ, List, length, Option, Some}
+use Rattle.cal_base.specs.Limits as limits
 use Rattle.cal_base.specs.declared.identity.ClientId.{ClientId}
 use Rattle.journal.specs.Commit.{IsClosed, replayed}
 use Rattle.journal.specs.Layout.{outside}
@@ -34,6 +35,6 @@ pub record TellsFresh (disk : Disk) (clients : ℕ) : Type 0 where
   pub sectors : List (List ℕ)
   pub told : disk.sectors ≡ Some sectors
   pub closed : IsClosed sectors
-  pub count : length sectors ≡ 2596
+  pub count : length sectors ≡ limits.sectors
   pub replays : replayed sectors ≡ Some (outside sectors)
   pub stands : StandsForHistory (outside sectors) (fresh_volume clients) []

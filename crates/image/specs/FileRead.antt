@@ -1,5 +1,6 @@
 -- The bytes of a file, as they are read from its blocks.
 use Rattle.std.specs.Prelude.{◌≡◌, ◌==◌, ◌<◌, ◌≤◌, ◌%◌, ◌++◌, ◌∷◌, [], if◌then◌else◌, ℕ, List, length, take, slice_index, Result, Ok, Err}
+use Rattle.cal_base.specs.Limits as limits
 use Rattle.cal_base.specs.Faults.{Rose}
 use Rattle.inode.specs.declared.inode.Inode.{Inode}
 use Rattle.shared_disk.specs.Disk.{Disk, MeetsOther}
@@ -22,12 +23,12 @@ pub record ReadsBlocks (disk : Disk) (view faults : ℕ) (result : Result (Unit 
 
 -- the bytes of the block that a pointer names, or zeros
 abbrev pub HoldsBlock : List (List ℕ) → ℕ → List ℕ → Type 0
-HoldsBlock sectors pointer bytes = (i : ℕ) → slice_index bytes (i % 4096) ≡ byte_behind sectors pointer i
+HoldsBlock sectors pointer bytes = (i : ℕ) → slice_index bytes (i % limits.block_size) ≡ byte_behind sectors pointer i
 
 -- the first bytes of a block were put behind others
 pub record PutsBlock (sectors : List (List ℕ)) (pointer count : ℕ) (old new : List ℕ) : Type 0 where
   pub block : List ℕ
-  pub size : length block ≡ 4096
+  pub size : length block ≡ limits.block_size
   pub holds : HoldsBlock sectors pointer block
   pub put : new ≡ old ++ take count block
 

@@ -1,5 +1,7 @@
 -- What a mount reads of the sectors, and how it may end.
-use Rattle.std.specs.Prelude.{◌≡◌, ◌≢◌, ◌≤◌, ◌<◌, ◌+◌, ℕ, Bool, List, length, slice_get, Some, Result, Ok, Err}
+use Rattle.std.specs.Prelude.{◌≡◌, ◌≢◌, ◌≤◌, ◌<◌, ℕ, Bool, List, length, slice_get, Some, Result, Ok, Err}
+use Rattle.cal_base.specs.Limits as limits
+use Rattle.shared_disk.specs.Map.{at_head, at_map, at_slot, at_inode}
 use Rattle.cal_base.specs.Faults.{Rose}
 use Rattle.inode.specs.Inode.{IsInode, SpellsInode}
 use Rattle.inode.specs.declared.inode.Inode.{Inode}
@@ -47,11 +49,11 @@ NoDamage sectors at = ⊥
 -- a count of clients that a volume may have
 pub record IsCount (clients : ℕ) : Type 0 where
   pub some : 1 ≤ clients
-  pub few : clients ≤ 16
+  pub few : clients ≤ limits.clients
 
 -- the slots of the first clients were read
 abbrev pub AreSlotsRead : List (List ℕ) → ℕ → List Slot → Type 0
-AreSlotsRead sectors count slots = (client : ℕ) (slot : Slot) → client < count → slice_get slots client ≡ Some slot → SpellsSlot (sector sectors (20 + client)) slot
+AreSlotsRead sectors count slots = (client : ℕ) (slot : Slot) → client < count → slice_get slots client ≡ Some slot → SpellsSlot (sector sectors (at_slot client)) slot
 
 abbrev pub AreSlots : List Slot → Type 0
 AreSlots slots = (client : ℕ) (slot : Slot) → slice_get slots client ≡ Some slot → IsSlot slot
@@ -64,7 +66,7 @@ pub record IsNode (number : ℕ) (inode : Inode) (slots : Slots) : Type 0 where
 
 -- the first inodes were read
 abbrev pub AreInodesRead : List (List ℕ) → ℕ → List Inode → Type 0
-AreInodesRead sectors count inodes = (number : ℕ) (inode : Inode) → number < count → slice_get inodes number ≡ Some inode → SpellsInode (sector sectors (36 + number)) inode
+AreInodesRead sectors count inodes = (number : ℕ) (inode : Inode) → number < count → slice_get inodes number ≡ Some inode → SpellsInode (sector sectors (at_inode number)) inode
 
 -- what an inode of a number may be: the root is a directory
 pub record MayStand (number : ℕ) (inode : Inode) : Type 0 where
@@ -88,13 +90,13 @@ NeverDamaged result = (at : ℕ) → result ≢ Err (Damaged at)
 -- what the parts of a volume may be
 pub record AreParts (clients : ℕ) (free : List Bool) (slots : List Slot) (inodes : List Inode) (directories : List Slots) : Type 0 where
   pub count : IsCount clients
-  pub map_is : length free ≡ 2048
+  pub map_is : length free ≡ limits.blocks
   pub slots_are : AreSlots slots
   pub nodes_are : AreNodes inodes directories
 
 -- all parts of a volume were read
 pub record ArePartsRead (sectors : List (List ℕ)) (clients : ℕ) (free : List Bool) (slots : List Slot) (inodes : List Inode) (directories : List Slots) : Type 0 where
-  pub head_read : SpellsHead (sector sectors 0) clients
-  pub map_read : SpellsMap (sector sectors 19) free
-  pub slots_read : AreSlotsRead sectors 16 slots
-  pub nodes_read : AreNodesRead sectors 512 inodes directories
+  pub head_read : SpellsHead (sector sectors at_head) clients
+  pub map_read : SpellsMap (sector sectors at_map) free
+  pub slots_read : AreSlotsRead sectors limits.clients slots
+  pub nodes_read : AreNodesRead sectors limits.inodes inodes directories

@@ -1,5 +1,6 @@
 -- How the homes of an edit are put one behind the other.
-use Rattle.std.specs.Prelude.{◌≡◌, ◌≤◌, ◌<◌, ◌*◌, ◌/◌, ◌++◌, ◌==◌, ℕ, Bool, false, List, Option, Some, None, length, ⊤, if◌then◌else◌}
+use Rattle.std.specs.Prelude.{◌+◌, ◌≡◌, ◌≤◌, ◌<◌, ◌*◌, ◌/◌, ◌++◌, ◌==◌, ℕ, Bool, false, List, Option, Some, None, length, ⊤, if◌then◌else◌}
+use Rattle.cal_base.specs.Limits as limits
 use Rattle.directory.specs.declared.entry.DirEntry.{DirEntry}
 use Rattle.image.specs.declared.home.Home.{Home}
 use Rattle.image.specs.declared.home.Home.TheVariants.{Inode as InodeHome, Block as BlockHome}
@@ -26,13 +27,13 @@ part_of (BlockHome ino index) = BlockPart ino.0 index
 
 -- an inode, or a block that is there of a directory which stays one
 pub record IsBlockThen (v : Volume) (e : Edit) (number index : ℕ) : Type 0 where
-  pub to_511 : number ≤ 511
+  pub to_511 : number < limits.inodes
   pub stays : is_edited e.inode number ≡ false
-  pub few : index < 8
-  pub there : 128 * index < length (slots_of (edited v e) number)
+  pub few : index < limits.directory_blocks
+  pub there : limits.slots_per_block * index < length (slots_of (edited v e) number)
 
 abbrev pub IsHome : Volume → Edit → Home → Type 0
-IsHome v e (InodeHome ino) = ino.0 ≤ 511
+IsHome v e (InodeHome ino) = ino.0 < limits.inodes
 IsHome v e (BlockHome ino index) = IsBlockThen v e ino.0 index
 
 -- the homes of the parts of an edit
@@ -45,11 +46,11 @@ growth_home (Some g) = Some (InodeHome g.directory)
 growth_home None = None
 
 abbrev pub leaving_home : Option Leaving → Option Home
-leaving_home (Some l) = Some (BlockHome l.directory (l.place / 128))
+leaving_home (Some l) = Some (BlockHome l.directory (l.place / limits.slots_per_block))
 leaving_home None = None
 
 abbrev pub entering_home : Option Entering → Option Home
-entering_home (Some n) = Some (BlockHome n.directory (n.place / 128))
+entering_home (Some n) = Some (BlockHome n.directory (n.place / limits.slots_per_block))
 entering_home None = None
 
 -- what an edit changes of the slots of one directory
@@ -76,5 +77,5 @@ grown_at None number inode = inode
 
 -- an inode has room for a block more, where it grows
 abbrev pub CanGrowAt : Option Growth → ℕ → Inode → Type 0
-CanGrowAt (Some g) number inode = (g.directory.0 ≡ number) → (inode.size ≤ 28672) × (g.block < 2048)
+CanGrowAt (Some g) number inode = (g.directory.0 ≡ number) → (inode.size + limits.block_size ≤ limits.directory_size) × (g.block < limits.blocks)
 CanGrowAt None number inode = ⊤

@@ -1,4 +1,5 @@
-ghost use Rattle.std.specs.Prelude.{◌≡◌, ◌≤◌, slice_index};
+ghost use Rattle.std.specs.Prelude.{◌<◌, ◌≡◌, ◌≤◌, slice_index};
+ghost use Rattle.cal_base.specs.Limits as limits;
 ghost use Rattle.directory.specs.Changed.{placed};
 ghost use Rattle.image.specs.Applying.{CanMark};
 ghost use Rattle.image.specs.Writing.{CanGrowAt, IsBlockThen, entering_at, grown_at, grows_of, leaving_at, put_at};
@@ -31,7 +32,7 @@ impl Image {
     /// The inode of a number as it is after an edit.
     pub(crate) fn inode_after(&self, edit: &Edit, ino: Ino) -> Inode
         requires edit { IsEdit self.now edit.now }
-        requires within { ino.0 ≤ 511 }
+        requires within { ino.0 < limits.inodes }
         ensures at { result ≡ inode_at (edited self.now edit.now).inodes ino.0 }
         ensures inode { IsInode result }
     {
@@ -44,7 +45,7 @@ impl Image {
         requires edit { IsEdit self.now edit.now }
         requires block { IsBlockThen self.now edit.now ino.0 index }
         ensures at { result ≡ slice_index (inode_at (edited self.now edit.now).inodes ino.0).blocks index }
-        ensures small { result ≤ 2048 }
+        ensures small { result ≤ limits.blocks }
     {
         u32::from(self.inode_after(edit, ino).blocks[index as usize])
     }
@@ -52,7 +53,7 @@ impl Image {
     /// Writes the sector of an inode as it is after an edit.
     pub(crate) fn write_inode_after(&self, edit: &Edit, ino: Ino, into: &mut Sector)
         requires edit { IsEdit self.now edit.now }
-        requires within { ino.0 ≤ 511 }
+        requires within { ino.0 < limits.inodes }
         ensures { SpellsInode into.new (inode_at (edited self.now edit.now).inodes ino.0) }
     {
         write_inode(&self.inode_after(edit, ino), into);

@@ -1,10 +1,11 @@
 ghost use Rattle.std.specs.Prelude.{◌≡◌, ◌≤◌, ◌<◌, ◌∷◌, [], IfOk, length};
+ghost use Rattle.cal_base.specs.Limits as limits;
 ghost use Rattle.volume.specs.Volume.{Slots};
 ghost use Rattle.volume_plan.specs.Plans.{answered, blocks_needed, free_count, grows, growth_of, if_room, slot_alone, standing};
 ghost use Rattle.image.specs.Planning.{plan_of, reply_for, touch_numbers};
 
 use crate::image::Image;
-use cal_base::{ClientId, Ino, Items, Oom};
+use cal_base::{ClientId, DIRECTORY_ENTRIES, Ino, Items, Oom};
 use directory::DirBlocks;
 use request_log::Slot;
 use std::alloc::Global;
@@ -43,7 +44,7 @@ pub(crate) fn reply_for(refused: Option<Why>) -> Reply
 impl Image {
     /// The slot of a client with the number and the reply of a change.
     pub(crate) fn answered(&self, client: ClientId, number: u64, refused: Option<Why>) -> SlotEdit
-        requires { client.0 < 16 }
+        requires { client.0 < limits.clients }
         ensures { result ≡ answered self.now client number (reply_for refused) }
     {
         let slot = self.slot(client);
@@ -66,7 +67,7 @@ impl Image {
         number: u64,
         refused: Option<Why>,
     ) -> ChangePlan
-        requires { client.0 < 16 }
+        requires { client.0 < limits.clients }
         ensures { plan_of result ≡ standing self.now client number (reply_for refused) }
     {
         ChangePlan {
@@ -81,7 +82,7 @@ impl Image {
     /// The plan, if there are as many free blocks as it needs; else one that is refused for want of
     /// them, and touches the same.
     pub(crate) fn if_room(&self, client: ClientId, number: u64, plan: ChangePlan) -> ChangePlan
-        requires { client.0 < 16 }
+        requires { client.0 < limits.clients }
         ensures { plan_of result ≡ if_room self.now client number (plan_of plan) }
     {
         let free = self.free();
@@ -131,5 +132,5 @@ pub(crate) fn does_grow(entries: &DirBlocks) -> bool
     ensures { result ≡ grows entries.now }
 {
     let slots = entries.slots().len();
-    entries.first_empty() == slots && slots < 1024
+    entries.first_empty() == slots && slots < DIRECTORY_ENTRIES
 }

@@ -1,4 +1,5 @@
 ghost use Rattle.std.specs.Prelude.{◌≡◌, ◌⊎◌, ◌≤◌, ◌<◌, ◌+◌, ◌++◌, ◌↔◌, [], length, replicate, take, vec_capacity, IsOk, OnOk, IsTrue, ◌==◌, if◌then◌else◌};
+ghost use Rattle.cal_base.specs.Limits as limits;
 ghost use Rattle.inode.specs.Inode.{AreHolesFrom, IsInode};
 ghost use Rattle.journal.specs.Layout.{outside};
 ghost use Rattle.shared_disk.specs.Sectors.{written};
@@ -25,7 +26,7 @@ pub fn read_file<D: PortDisk>(
     ino: Ino,
     into: &mut Vec<u8>,
 ) -> Result<(), DiskRefusal>
-    requires number { ino.0 ≤ 511 }
+    requires number { ino.0 < limits.inodes }
     requires empty { into.old.items ≡ [] }
     requires room { (inode_at image.now.inodes ino.0).size ≤ vec_capacity into.old }
     ensures reads { ReadsBlocks (D.means disk.old) port.now.view (D.fault_count disk.old) result (D.means disk.new) (D.fault_count disk.new) }
@@ -49,7 +50,7 @@ pub fn read_file_behind<D: PortDisk>(
     writes: &[(u32, Sector)],
     into: &mut Vec<u8>,
 ) -> Result<(), DiskRefusal>
-    requires number { ino.0 ≤ 511 }
+    requires number { ino.0 < limits.inodes }
     requires empty { into.old.items ≡ [] }
     requires room { (inode_at image.now.inodes ino.0).size ≤ vec_capacity into.old }
     ensures reads { ReadsBlocks (D.means disk.old) port.now.view (D.fault_count disk.old) result (D.means disk.new) (D.fault_count disk.new) }
@@ -71,7 +72,7 @@ fn read_blocks<D: PortDisk>(
     into: &mut Vec<u8>,
 ) -> Result<(), DiskRefusal>
     requires inode { IsInode inode.now }
-    requires fits { inode.now.size ≤ 262144 }
+    requires fits { inode.now.size ≤ limits.file_size }
     requires empty { into.old.items ≡ [] }
     requires room { inode.now.size ≤ vec_capacity into.old }
     ensures reads { ReadsBlocks (D.means disk.old) port.now.view (D.fault_count disk.old) result (D.means disk.new) (D.fault_count disk.new) }
@@ -107,8 +108,8 @@ fn read_piece<D: PortDisk>(
     writes: &[(u32, Sector)],
     into: &mut Vec<u8>,
 ) -> Result<(), DiskRefusal>
-    requires within { pointer ≤ 2048 }
-    requires count { count ≤ 4096 }
+    requires within { pointer ≤ limits.blocks }
+    requires count { count ≤ limits.block_size }
     requires room { length into.old.items + count ≤ vec_capacity into.old }
     ensures reads { ReadsBlocks (D.means disk.old) port.now.view (D.fault_count disk.old) result (D.means disk.new) (D.fault_count disk.new) }
     ensures hole { pointer ≡ 0 → IsOk result }
@@ -117,7 +118,7 @@ fn read_piece<D: PortDisk>(
     ensures capacity { OnOk result (vec_capacity into.old ≤ vec_capacity into.new) }
     ensures block { OnOk result (Told (D.means disk.old) (λ sectors. PutsBlock (written sectors writes.now) pointer count into.old.items into.new.items)) }
 {
-    let mut sector = [0; 4096];
+    let mut sector = [0; BLOCK_SIZE];
     match read_block(port, disk, pointer, writes, &mut sector) {
         Ok(()) => {}
         Err(refusal) => return Err(refusal),
@@ -128,7 +129,7 @@ fn read_piece<D: PortDisk>(
 
 /// Puts the first bytes of a sector behind others, where there is room for them.
 fn put_front(into: &mut Vec<u8>, sector: &Sector, count: usize)
-    requires count { count ≤ 4096 }
+    requires count { count ≤ limits.block_size }
     requires room { length into.old.items + count ≤ vec_capacity into.old }
     ensures put { into.new.items ≡ into.old.items ++ take count sector.now }
     ensures capacity { vec_capacity into.old ≤ vec_capacity into.new }
@@ -151,8 +152,8 @@ fn read_block<D: PortDisk>(
     writes: &[(u32, Sector)],
     into: &mut Sector,
 ) -> Result<(), DiskRefusal>
-    requires within { pointer ≤ 2048 }
-    requires zeros { into.old ≡ replicate 4096 0 }
+    requires within { pointer ≤ limits.blocks }
+    requires zeros { into.old ≡ replicate limits.block_size 0 }
     ensures reads { ReadsBlocks (D.means disk.old) port.now.view (D.fault_count disk.old) result (D.means disk.new) (D.fault_count disk.new) }
     ensures hole { pointer ≡ 0 → IsOk result }
     ensures key { OnOk result ((pointer ≡ 0) ⊎ ((D.means disk.old).key ≡ port.now.view)) }

@@ -1,4 +1,5 @@
 ghost use Rattle.std.specs.Prelude.{◌≡◌, ◌≤◌, ◌<◌, ◌+◌, ◌^◌, ℕ, All, List, length, take, IfOk};
+ghost use Rattle.cal_base.specs.Limits as limits;
 ghost use Rattle.inode.specs.Inode.{IsInode};
 ghost use Rattle.inode.specs.declared.inode.Kind.TheVariants.{File};
 ghost use Rattle.cal_base.specs.Blocks.{block_count};
@@ -15,10 +16,10 @@ ghost use Rattle.volume_plan.specs.Plans.{free_count};
 ghost use Rattle.image.specs.EntryPlans.{FlushStands};
 
 use crate::image::Image;
-use cal_base::{ClientId, Items, Oom, Sector};
+use cal_base::{BLOCK_SIZE, ClientId, Items, Oom, Sector};
 use inode::Inode;
 use request_log::Slot;
-use shared_disk::Txn;
+use shared_disk::{FIRST_BLOCK, Txn};
 use space_map::SpaceMap;
 use std::alloc::Global;
 use token_kind::Flush;
@@ -47,7 +48,7 @@ impl Image {
         client: ClientId,
         flush: &Flush,
     ) -> Result<FlushPlan, Oom>
-        requires known { client.0 < 16 }
+        requires known { client.0 < limits.clients }
         requires is { IsFlush flush.now }
         requires file { (inode_at self.now.inodes flush.now.ino.0).kind ≡ File }
         requires enough { length flush.now.pieces ≤ free_count self.now }
@@ -81,7 +82,7 @@ impl Image {
 
     /// What a flush of a client alters, with these blocks.
     fn flush_of(&self, client: ClientId, flush: &Flush, blocks: &[u16]) -> Edit
-        requires known { client.0 < 16 }
+        requires known { client.0 < limits.clients }
         requires is { IsFlush flush.now }
         requires file { (inode_at self.now.inodes flush.now.ino.0).kind ≡ File }
         requires enough { length flush.now.pieces ≤ free_count self.now }
@@ -104,7 +105,7 @@ impl Image {
 
     /// The slot of a client with the number of a flush.
     fn counted(&self, client: ClientId, number: u64) -> SlotEdit
-        requires { client.0 < 16 }
+        requires { client.0 < limits.clients }
         ensures slot { result ≡ (record { client = client; slot = record { purged = (slot_at self.now.slots client.0).purged; call = (slot_at self.now.slots client.0).call; flush = number; reply = (slot_at self.now.slots client.0).reply } }) }
         ensures fits { number < 2 ^ 64 }
         ensures volume { IsVolume self.now }
@@ -124,7 +125,7 @@ impl Image {
 
 /// The least free blocks, so many.
 fn least_blocks(alloc: Global, map: &SpaceMap, count: usize) -> Result<Vec<u16>, Oom>
-    requires { length map.now ≡ 2048 }
+    requires { length map.now ≡ limits.blocks }
     ensures { IfOk result (λ blocks. blocks.items ≡ take count (free_from 0 map.now)) }
 {
     let mut left = map.copy();
@@ -144,7 +145,7 @@ fn data_writes(alloc: Global, blocks: &[u16], pieces: &[(u8, Sector)]) -> Result
 {
     let mut writes = Vec::with_capacity(alloc, pieces.len())?;
     for place in 0..pieces.len().min(blocks.len()) {
-        writes.push((548 + u32::from(blocks[place]), pieces[place].1))?;
+        writes.push((FIRST_BLOCK + u32::from(blocks[place]), pieces[place].1))?;
     }
     Ok(Items::from_vec(writes))
 }
@@ -153,12 +154,15 @@ fn data_writes(alloc: Global, blocks: &[u16], pieces: &[(u8, Sector)]) -> Result
 fn flushed_inode(inode: &Inode, flush: &Flush, blocks: &[u16]) -> Inode
     requires inode { IsInode inode.now }
     requires flush { IsFlush flush.now }
-    requires blocks { All (λ block. block < 2048) blocks.now }
+    requires blocks { All (λ block. block < limits.blocks) blocks.now }
     ensures { result ≡ flushed_inode inode.now flush.now blocks.now }
 {
     let mut flushed = *inode;
     flushed.size = flush.size;
-    cut_pointers(&mut flushed.blocks, (flush.cut as usize).div_ceil(4096));
+    cut_pointers(
+        &mut flushed.blocks,
+        (flush.cut as usize).div_ceil(BLOCK_SIZE),
+    );
     point_at(&mut flushed.blocks, flush.pieces.as_slice(), blocks);
     flushed
 }
@@ -174,7 +178,7 @@ fn cut_pointers(pointers: &mut [u16], from: usize)
 /// Points at the blocks of pieces, by their indexes.
 fn point_at(pointers: &mut [u16], pieces: &[(u8, Sector)], blocks: &[u16])
     requires pieces { All (λ piece. piece.0 < length pointers.old) pieces.now }
-    requires blocks { All (λ block. block < 2048) blocks.now }
+    requires blocks { All (λ block. block < limits.blocks) blocks.now }
     ensures { pointers.new ≡ pointed_at pointers.old pieces.now blocks.now }
 {
     for place in 0..pieces.len().min(blocks.len()) {

@@ -1,4 +1,5 @@
 ghost use Rattle.std.specs.Prelude.{◌≡◌, ◌<◌, ◌||◌, ◌∷◌, [], IfOk, IfSome, OnOk, Some, is_some, nat_eq};
+ghost use Rattle.cal_base.specs.Limits as limits;
 ghost use Rattle.std.specs.Option.{option_map};
 ghost use Rattle.std.specs.Cmp.Lexicographic.{pointwise};
 ghost use Rattle.image.specs.Applying.{CanMark, CanPut};
@@ -10,10 +11,11 @@ ghost use Rattle.volume_edit.specs.declared.edit.Leaving.{Leaving};
 
 use crate::home::Home;
 use crate::image::Image;
-use cal_base::{Oom, Sector};
+use crate::read_parts::BEFORE_BLOCKS;
+use cal_base::{BLOCK_SIZE, Oom, SLOTS_PER_BLOCK, Sector};
 use inode::Inode;
 use request_log::write_slot;
-use shared_disk::Txn;
+use shared_disk::{AT_MAP, FIRST_INODE, FIRST_SLOT, Txn};
 use std::alloc::Global;
 use volume_edit::{Edit, Entering, Growth, InodeEdit, Leaving};
 
@@ -38,9 +40,9 @@ impl Image {
         ensures volume { IsVolume self.now }
     {
         if changes_map(&self.inodes, edit) {
-            let mut sector = [0; 4096];
+            let mut sector = [0; BLOCK_SIZE];
             self.write_map(edit, &mut sector);
-            homes.push((19, sector))?;
+            homes.push((AT_MAP, sector))?;
         }
         Ok(())
     }
@@ -52,9 +54,9 @@ impl Image {
         ensures { OnOk result (Adds (edited self.now edit.now) (slot_parts edit.now.slot) homes.old.items homes.new.items) }
     {
         if let Some(edit) = &edit.slot {
-            let mut sector = [0; 4096];
+            let mut sector = [0; BLOCK_SIZE];
             write_slot(&edit.slot, &mut sector);
-            homes.push((20 + u32::from(edit.client.0), sector))?;
+            homes.push((FIRST_SLOT + u32::from(edit.client.0), sector))?;
         }
         Ok(())
     }
@@ -137,7 +139,7 @@ impl Image {
         requires home { IsHome self.now edit.now home }
         ensures { OnOk result (Adds (edited self.now edit.now) (part_of home ∷ []) homes.old.items homes.new.items) }
     {
-        let mut sector = [0; 4096];
+        let mut sector = [0; BLOCK_SIZE];
         self.write_home(edit, home, &mut sector);
         homes.push((self.sector_of(edit, home), sector))?;
         Ok(())
@@ -162,8 +164,8 @@ impl Image {
         ensures { result ≡ sector_of (edited self.now edit.now) (part_of home) }
     {
         match home {
-            Home::Inode(ino) => 36 + ino.0,
-            Home::Block(ino, index) => 547 + self.pointer_after(edit, ino, index),
+            Home::Inode(ino) => FIRST_INODE + ino.0,
+            Home::Block(ino, index) => BEFORE_BLOCKS + self.pointer_after(edit, ino, index),
         }
     }
 }
@@ -216,22 +218,28 @@ fn growth_home(growth: &Option<Growth>) -> Option<Home>
 
 /// The block in which an entry goes.
 fn leaving_home(leaving: &Option<Leaving>) -> Option<Home>
-    requires { IfSome leaving.now (λ (l : Leaving). l.place < 1024) }
+    requires { IfSome leaving.now (λ (l : Leaving). l.place < limits.directory_entries) }
     ensures { result ≡ leaving_home leaving.now }
 {
     match leaving {
-        Some(leaving) => Some(Home::Block(leaving.directory, (leaving.place / 128) as u8)),
+        Some(leaving) => Some(Home::Block(
+            leaving.directory,
+            (leaving.place as usize / SLOTS_PER_BLOCK) as u8,
+        )),
         None => None,
     }
 }
 
 /// The block in which an entry comes.
 fn entering_home(entering: &Option<Entering>) -> Option<Home>
-    requires { IfSome entering.now (λ (n : Entering). n.place < 1024) }
+    requires { IfSome entering.now (λ (n : Entering). n.place < limits.directory_entries) }
     ensures { result ≡ entering_home entering.now }
 {
     match entering {
-        Some(entering) => Some(Home::Block(entering.directory, (entering.place / 128) as u8)),
+        Some(entering) => Some(Home::Block(
+            entering.directory,
+            (entering.place as usize / SLOTS_PER_BLOCK) as u8,
+        )),
         None => None,
     }
 }

@@ -1,4 +1,5 @@
 ghost use Rattle.std.specs.Prelude.{◌≡◌, ◌↔◌, ◌≤◌, ◌<◌, IfOk, IfSome, IfNone, IsTrue};
+ghost use Rattle.cal_base.specs.Limits as limits;
 ghost use Rattle.std.specs.Option.{option_map};
 ghost use Rattle.inode.specs.declared.inode.Kind.TheVariants.{File};
 ghost use Rattle.inode.specs.Inode.{IsInode};
@@ -80,7 +81,7 @@ impl Image {
 
     /// The slot of a client.
     pub fn slot(&self, client: ClientId) -> &Slot
-        requires { client.0 < 16 }
+        requires { client.0 < limits.clients }
         ensures at { result.now ≡ slot_at self.now.slots client.0 }
         ensures slot { IsSlot result.now }
         ensures volume { IsVolume self.now }
@@ -90,7 +91,7 @@ impl Image {
 
     /// The inode of a number.
     pub fn inode(&self, ino: Ino) -> &Inode
-        requires { ino.0 ≤ 511 }
+        requires { ino.0 < limits.inodes }
         ensures at { result.now ≡ inode_at self.now.inodes ino.0 }
         ensures inode { IsInode result.now }
     {
@@ -99,7 +100,7 @@ impl Image {
 
     /// Whether the inode of a number is a file.
     pub fn is_file(&self, ino: Ino) -> bool
-        requires { ino.0 ≤ 511 }
+        requires { ino.0 < limits.inodes }
         ensures { IsTrue result ↔ ((inode_at self.now.inodes ino.0).kind ≡ File) }
     {
         self.inodes[ino.0 as usize].kind == Kind::File
@@ -107,7 +108,7 @@ impl Image {
 
     /// The size of the file or directory of a number, in bytes.
     pub fn size(&self, ino: Ino) -> u32
-        requires { ino.0 ≤ 511 }
+        requires { ino.0 < limits.inodes }
         ensures { result ≡ (inode_at self.now.inodes ino.0).size }
     {
         self.inodes[ino.0 as usize].size
@@ -115,7 +116,7 @@ impl Image {
 
     /// The slots of a directory; none where the inode is another.
     pub fn entries_of(&self, ino: Ino) -> &DirBlocks
-        requires { ino.0 ≤ 511 }
+        requires { ino.0 < limits.inodes }
         ensures { result.now ≡ slots_of self.now ino.0 }
     {
         &self.directories[ino.0 as usize]
@@ -141,7 +142,7 @@ impl Image {
 
     /// The least file from a number on that no directory names, if there is one.
     pub fn least_orphan(&self, from: Ino) -> Option<Ino>
-        requires { from.0 ≤ 512 }
+        requires { from.0 ≤ limits.inodes }
         ensures found { IfSome result (λ ino. IsLeastOrphan self.now.inodes from.0 ino.0) }
         ensures none { IfNone result (HasNoOrphan self.now.inodes from.0) }
     {

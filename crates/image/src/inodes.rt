@@ -1,8 +1,10 @@
-ghost use Rattle.std.specs.Prelude.{◌≡◌, ◌≤◌, ◌<◌, length, IfSome};
+ghost use Rattle.std.specs.Prelude.{◌+◌, ◌≡◌, ◌≤◌, ◌<◌, length, IfSome};
+ghost use Rattle.cal_base.specs.Limits as limits;
 ghost use Rattle.image.specs.Applying.{CanChangeInodes, CanGrowInode};
 ghost use Rattle.volume_edit.specs.Edit.{grown_inode, with_growth, with_inode};
 ghost use Rattle.volume_edit.specs.declared.edit.InodeEdit.{InodeEdit};
 
+use cal_base::BLOCK_SIZE;
 use inode::Inode;
 use volume_edit::{Edit, Growth, InodeEdit};
 
@@ -38,13 +40,13 @@ fn grow_inode(inodes: &mut [Inode], growth: &Option<Growth>)
 
 /// The inode of a directory with one block more, behind its others.
 pub(crate) fn grown_inode(inode: &Inode, block: u16) -> Inode
-    requires size { inode.now.size ≤ 28672 }
-    requires block { block < 2048 }
+    requires size { inode.now.size + limits.block_size ≤ limits.directory_size }
+    requires block { block < limits.blocks }
     ensures { result ≡ grown_inode inode.now block }
 {
     let mut grown = *inode;
-    let place = inode.size as usize / 4096;
-    grown.size += 4096;
+    let place = inode.size as usize / BLOCK_SIZE;
+    grown.size += BLOCK_SIZE as u32;
     grown.blocks[place] = block + 1;
     grown
 }

@@ -1,4 +1,5 @@
-ghost use Rattle.std.specs.Prelude.{◌≡◌, ◌≤◌, ℕ, List, Some, length};
+ghost use Rattle.std.specs.Prelude.{◌<◌, ◌≡◌, ◌≤◌, ℕ, List, Some, length};
+ghost use Rattle.cal_base.specs.Limits as limits;
 ghost use Rattle.cal_base.specs.declared.identity.Ino.{Ino};
 ghost use Rattle.journal.specs.Commit.{replayed};
 ghost use Rattle.journal.specs.Layout.{outside};
@@ -18,12 +19,12 @@ ghost use Rattle.image.specs.FileRead.{AreFirstBytes};
 /// for the same history, where that is legal; so every plan of the image leads on from there.
 pub fn a_mounted_volume_stands()
     ensures sound { (sectors : List (List ℕ)) (history : List Entry) (at : ℕ) → replayed sectors ≡ Some (outside sectors) → Stands sectors history → IsDamage sectors at → ⊥ }
-    ensures stands { (sectors : List (List ℕ)) (v : Volume) (history : List Entry) → length sectors ≡ 2596 → replayed sectors ≡ Some (outside sectors) → Stands sectors history → IsLegal history
+    ensures stands { (sectors : List (List ℕ)) (v : Volume) (history : List Entry) → length sectors ≡ limits.sectors → replayed sectors ≡ Some (outside sectors) → Stands sectors history → IsLegal history
         → IsVolume v → SpellsVolume (outside sectors) v → Mounted (outside sectors) v history }
 {}
 
 /// What is read of a file, all bytes up to its size, is what lasts of it in the tree.
 pub fn a_file_reads_as_it_lasts()
-    ensures { (sectors : List (List ℕ)) (v : Volume) (history : List Entry) (ino : Ino) (file : FileState) (bytes : List ℕ) → StandsForHistory sectors v history → ino.0 ≤ 511 → node_at (tree_of history) ino ≡ Some (Regular file)
+    ensures { (sectors : List (List ℕ)) (v : Volume) (history : List Entry) (ino : Ino) (file : FileState) (bytes : List ℕ) → StandsForHistory sectors v history → ino.0 < limits.inodes → node_at (tree_of history) ino ≡ Some (Regular file)
         → length bytes ≡ (inode_at v.inodes ino.0).size → AreFirstBytes sectors (inode_at v.inodes ino.0) bytes → bytes ≡ file.kept }
 {}

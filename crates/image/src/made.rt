@@ -1,6 +1,7 @@
 ghost use Rattle.std.specs.Prelude.{◌≡◌, ◌≤◌, [], length, replicate, OnErr, OnOk};
+ghost use Rattle.cal_base.specs.Limits as limits;
 ghost use Rattle.fence.specs.Writes.{Runs};
-ghost use Rattle.volume.specs.Format.{format_writes};
+ghost use Rattle.volume.specs.Format.{format_length, format_writes};
 ghost use Rattle.volume_edit.specs.Edit.{first_slot, free_inode};
 ghost use Rattle.image.specs.EntryPlans.{TellsFresh};
 ghost use Rattle.image.specs.Image.{fresh_inodes, fresh_slots, fresh_volume, no_directories};
@@ -26,12 +27,12 @@ pub fn mkfs<D: PortDisk>(
     clients: u8,
 ) -> Result<(), PortHalt>
     requires some { 1 ≤ clients }
-    requires few { clients ≤ 16 }
-    requires room { 531 ≤ (D.means disk.old).room }
+    requires few { clients ≤ limits.clients }
+    requires room { format_length ≤ (D.means disk.old).room }
     ensures runs { Runs port.old (D.means disk.old) (D.fault_count disk.old) (format_writes clients) result port.new (D.means disk.new) (D.fault_count disk.new) }
     ensures image { OnOk result (image.new ≡ fresh_volume clients) }
     ensures kept { OnErr result (image.new ≡ image.old) }
-    ensures stands { Told (D.means disk.old) (λ sectors. length sectors ≡ 2596 → OnOk result (TellsFresh (D.means disk.new) clients)) }
+    ensures stands { Told (D.means disk.old) (λ sectors. length sectors ≡ limits.sectors → OnOk result (TellsFresh (D.means disk.new) clients)) }
 {
     match format(port, disk, clients) {
         Ok(()) => {}
@@ -45,7 +46,7 @@ impl Image {
     /// Becomes the volume of a fresh format for so many clients.
     fn make_fresh(&mut self, clients: u8)
         requires some { 1 ≤ clients }
-        requires few { clients ≤ 16 }
+        requires few { clients ≤ limits.clients }
         ensures { self.new ≡ fresh_volume clients }
     {
         self.clients = clients;
@@ -59,7 +60,7 @@ impl Image {
 
 /// Makes all slots those of clients that made no change.
 fn clear_slots(slots: &mut [Slot])
-    requires { length slots.old ≡ 16 }
+    requires { length slots.old ≡ limits.clients }
     ensures { slots.new ≡ fresh_slots }
 {
     for slot in slots.iter_mut() {
@@ -70,8 +71,8 @@ fn clear_slots(slots: &mut [Slot])
 /// Makes the first inode the root without blocks, frees the others, and takes all slots from all
 /// directories.
 pub(crate) fn clear_nodes(inodes: &mut [Inode], directories: &mut [DirBlocks])
-    requires inode_count { length inodes.old ≡ 512 }
-    requires directory_count { length directories.old ≡ 512 }
+    requires inode_count { length inodes.old ≡ limits.inodes }
+    requires directory_count { length directories.old ≡ limits.inodes }
     ensures inodes { inodes.new ≡ fresh_inodes }
     ensures directories { directories.new ≡ no_directories }
 {
@@ -81,7 +82,7 @@ pub(crate) fn clear_nodes(inodes: &mut [Inode], directories: &mut [DirBlocks])
 
 /// Makes the first inode the root without blocks, and frees the others.
 fn clear_inodes(inodes: &mut [Inode])
-    requires { length inodes.old ≡ 512 }
+    requires { length inodes.old ≡ limits.inodes }
     ensures { inodes.new ≡ fresh_inodes }
 {
     free_inodes(inodes);
@@ -99,7 +100,7 @@ fn free_inodes(inodes: &mut [Inode])
 
 /// Takes all slots from all directories.
 fn clear_directories(directories: &mut [DirBlocks])
-    requires { length directories.old ≡ 512 }
+    requires { length directories.old ≡ limits.inodes }
     ensures { directories.new ≡ no_directories }
 {
     for directory in directories.iter_mut() {

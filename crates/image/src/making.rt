@@ -1,4 +1,5 @@
 ghost use Rattle.std.specs.Prelude.{◌≡◌, ◌≤◌, ◌<◌, ◌∷◌, [], IfOk, length, if◌then◌else◌};
+ghost use Rattle.cal_base.specs.Limits as limits;
 ghost use Rattle.directory.specs.Directory.{first_empty};
 ghost use Rattle.tree_law.specs.Path.{IsPath};
 ghost use Rattle.tree_law.specs.Resolve.{last_of, new_place};
@@ -20,7 +21,7 @@ use volume_edit::{Edit, Entering, InodeEdit};
 /// The last name of a path; no bytes for the root.
 pub(crate) fn last_of(path: &Path) -> &[u8]
     ensures name { result.now ≡ last_of path.now }
-    ensures short { length result.now ≤ 27 }
+    ensures short { length result.now ≤ limits.name_bytes }
 {
     match path.names() {
         [.., name] => name.as_slice(),
@@ -59,7 +60,7 @@ impl Image {
         path: &Path,
         kind: Kind,
     ) -> Result<ChangePlan, Oom>
-        requires { client.0 < 16 }
+        requires { client.0 < limits.clients }
         ensures path { IsPath path.now }
         ensures plan { IfOk result (λ p. plan_of p ≡ making_at self.now client number (new_place (shown self.now) path.now) (last_of path.now) kind) }
     {
@@ -79,9 +80,9 @@ impl Image {
         name: &[u8],
         kind: Kind,
     ) -> Result<ChangePlan, Oom>
-        requires client { client.0 < 16 }
-        requires place { place.0 ≤ 511 }
-        requires name { length name.now ≤ 27 }
+        requires client { client.0 < limits.clients }
+        requires place { place.0 < limits.inodes }
+        requires name { length name.now ≤ limits.name_bytes }
         ensures { IfOk result (λ p. plan_of p ≡ making_if self.now client number place name.now kind (least_inode self.now)) }
     {
         let Some(ino) = self.least_inode() else {
@@ -102,9 +103,9 @@ impl Image {
         kind: Kind,
         ino: Ino,
     ) -> Result<ChangePlan, Oom>
-        requires client { client.0 < 16 }
-        requires place { place.0 ≤ 511 }
-        requires name { length name.now ≤ 27 }
+        requires client { client.0 < limits.clients }
+        requires place { place.0 < limits.inodes }
+        requires name { length name.now ≤ limits.name_bytes }
         ensures { IfOk result (λ p. plan_of p ≡ making self.now client number place name.now kind ino) }
     {
         let entries = self.entries_of(place);

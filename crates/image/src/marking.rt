@@ -1,4 +1,5 @@
 ghost use Rattle.std.specs.Prelude.{◌≡◌, ◌≤◌, ◌<◌, true, false, IfSome};
+ghost use Rattle.cal_base.specs.Limits as limits;
 ghost use Rattle.image.specs.Applying.{CanMark, CanPut};
 ghost use Rattle.inode.specs.Inode.{AreSmall};
 ghost use Rattle.volume_edit.specs.Edit.{free_with_growth, free_with_inode, marked, marked_all};
@@ -30,7 +31,7 @@ fn mark_inode(map: &mut SpaceMap, inodes: &[Inode], edit: &Option<InodeEdit>)
 
 /// Takes the block by which a directory grows.
 fn mark_growth(map: &mut SpaceMap, growth: &Option<Growth>)
-    requires { IfSome growth.now (λ (g : Growth). g.block < 2048) }
+    requires { IfSome growth.now (λ (g : Growth). g.block < limits.blocks) }
     ensures { map.new ≡ free_with_growth map.old growth.now }
 {
     if let Some(growth) = growth {
@@ -60,7 +61,7 @@ fn use_all(map: &mut SpaceMap, pointers: &[u16])
 
 /// Frees the block that a pointer names, if it names one.
 fn free_one(map: &mut SpaceMap, pointer: u16)
-    requires { pointer ≤ 2048 }
+    requires { pointer ≤ limits.blocks }
     ensures { map.new ≡ marked true map.old pointer }
 {
     if pointer > 0 {
@@ -70,7 +71,7 @@ fn free_one(map: &mut SpaceMap, pointer: u16)
 
 /// Takes the block that a pointer names, if it names one.
 fn use_one(map: &mut SpaceMap, pointer: u16)
-    requires { pointer ≤ 2048 }
+    requires { pointer ≤ limits.blocks }
     ensures { map.new ≡ marked false map.old pointer }
 {
     if pointer > 0 {

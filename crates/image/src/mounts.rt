@@ -1,4 +1,5 @@
 ghost use Rattle.std.specs.Prelude.{◌≡◌, ◌≢◌, ℕ, List, length, Some, Err, OnOk};
+ghost use Rattle.cal_base.specs.Limits as limits;
 ghost use Rattle.journal.specs.Layout.{outside};
 ghost use Rattle.volume.specs.Volume.{SpellsVolume, Volume};
 ghost use Rattle.volume_edit.specs.Edit.{IsVolume};
@@ -50,15 +51,15 @@ fn read_volume<D: PortDisk>(
     inodes: &mut [Inode],
     directories: &mut [DirBlocks],
 ) -> Result<(), MountHalt>
-    requires slots { length slots.old ≡ 16 }
-    requires inodes { length inodes.old ≡ 512 }
-    requires directories { length directories.old ≡ 512 }
+    requires slots { length slots.old ≡ limits.clients }
+    requires inodes { length inodes.old ≡ limits.inodes }
+    requires directories { length directories.old ≡ limits.inodes }
     ensures reads { ReadsOnly IsDamage (D.means disk.old) port.now.view (D.fault_count disk.old) result (D.means disk.new) (D.fault_count disk.new) }
     ensures ok { OnOk result (Told (D.means disk.old) (λ sectors. ArePartsRead sectors clients.new map.new slots.new inodes.new directories.new)) }
     ensures kept { AreParts clients.old map.old slots.old inodes.old directories.old → AreParts clients.new map.new slots.new inodes.new directories.new }
-    ensures slot_count { length slots.new ≡ 16 }
-    ensures inode_count { length inodes.new ≡ 512 }
-    ensures directory_count { length directories.new ≡ 512 }
+    ensures slot_count { length slots.new ≡ limits.clients }
+    ensures inode_count { length inodes.new ≡ limits.inodes }
+    ensures directory_count { length directories.new ≡ limits.inodes }
 {
     match read_clients(port, disk, clients) {
         Ok(()) => {}

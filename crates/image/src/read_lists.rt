@@ -1,4 +1,6 @@
 ghost use Rattle.std.specs.Prelude.{◌≡◌, ◌+◌, ◌/◌, [], length, OnOk};
+ghost use Rattle.cal_base.specs.Limits as limits;
+ghost use Rattle.shared_disk.specs.Map.{at_inode};
 ghost use Rattle.inode.specs.Inode.{IsInode, SpellsInode};
 ghost use Rattle.inode.specs.declared.inode.Kind.TheVariants.{Dir};
 ghost use Rattle.journal.specs.Layout.{sector};
@@ -9,7 +11,7 @@ ghost use Rattle.image.specs.Mount.{AreInodesRead, AreNodes, AreNodesRead, AreSl
 use crate::made::clear_nodes;
 use crate::mount_halt::MountHalt;
 use crate::read_parts::{load_inode, read_block, read_client_slot};
-use cal_base::INODES;
+use cal_base::{BLOCK_SIZE, INODES, SLOTS_PER_BLOCK};
 use directory::DirBlocks;
 use fence::Port;
 use inode::{Inode, Kind};
@@ -22,11 +24,11 @@ pub(crate) fn read_slots<D: PortDisk>(
     disk: &mut D,
     slots: &mut [Slot],
 ) -> Result<(), MountHalt>
-    requires { length slots.old ≡ 16 }
+    requires { length slots.old ≡ limits.clients }
     ensures reads { ReadsOnly FirstSlot (D.means disk.old) port.now.view (D.fault_count disk.old) result (D.means disk.new) (D.fault_count disk.new) }
-    ensures ok { OnOk result (Told (D.means disk.old) (λ sectors. AreSlotsRead sectors 16 slots.new)) }
+    ensures ok { OnOk result (Told (D.means disk.old) (λ sectors. AreSlotsRead sectors limits.clients slots.new)) }
     ensures kept { AreSlots slots.old → AreSlots slots.new }
-    ensures count { length slots.new ≡ 16 }
+    ensures count { length slots.new ≡ limits.clients }
 {
     for client in 0..16u32 {
         match read_client_slot(port, disk, client, &mut slots[client as usize]) {
@@ -43,11 +45,11 @@ pub(crate) fn read_inodes<D: PortDisk>(
     disk: &mut D,
     inodes: &mut [Inode],
 ) -> Result<(), MountHalt>
-    requires { length inodes.old ≡ 512 }
+    requires { length inodes.old ≡ limits.inodes }
     ensures reads { ReadsOnly FirstInode (D.means disk.old) port.now.view (D.fault_count disk.old) result (D.means disk.new) (D.fault_count disk.new) }
-    ensures ok { OnOk result (Told (D.means disk.old) (λ sectors. AreInodesRead sectors 512 inodes.new)) }
-    ensures stand { OnOk result (MayAllStand 512 inodes.new) }
-    ensures count { length inodes.new ≡ 512 }
+    ensures ok { OnOk result (Told (D.means disk.old) (λ sectors. AreInodesRead sectors limits.inodes inodes.new)) }
+    ensures stand { OnOk result (MayAllStand limits.inodes inodes.new) }
+    ensures count { length inodes.new ≡ limits.inodes }
 {
     for number in 0..INODES as u32 {
         match load_inode(port, disk, number, &mut inodes[number as usize]) {
@@ -68,16 +70,16 @@ pub(crate) fn read_blocks<D: PortDisk>(
 ) -> Result<(), MountHalt>
     requires inode { IsInode inode.now }
     requires kind { inode.now.kind ≡ Dir }
-    requires spelled { Told (D.means disk.old) (λ sectors. SpellsInode (sector sectors (36 + number)) inode.now) }
+    requires spelled { Told (D.means disk.old) (λ sectors. SpellsInode (sector sectors (at_inode number)) inode.now) }
     requires own { (D.means disk.old).key ≡ port.now.view }
     requires none { directory.old ≡ [] }
     ensures reads { ReadsOnly (LacksBlock number) (D.means disk.old) port.now.view (D.fault_count disk.old) result (D.means disk.new) (D.fault_count disk.new) }
-    ensures ok { OnOk result (Told (D.means disk.old) (λ sectors. Loads sectors inode.now (inode.now.size / 4096) directory.new)) }
+    ensures ok { OnOk result (Told (D.means disk.old) (λ sectors. Loads sectors inode.now (inode.now.size / limits.block_size) directory.new)) }
     ensures has { OnOk result (HasSlots inode.now.kind inode.now directory.new) }
 {
-    let end = 128 * (inode.size as usize / 4096);
+    let end = SLOTS_PER_BLOCK * (inode.size as usize / BLOCK_SIZE);
     while directory.slots().len() < end {
-        let block = directory.slots().len() / 128;
+        let block = directory.slots().len() / SLOTS_PER_BLOCK;
         match read_block(port, disk, inode.blocks[block], directory) {
             Ok(()) => {}
             Err(halt) => return Err(halt),
@@ -95,7 +97,7 @@ pub(crate) fn read_directory<D: PortDisk>(
     directory: &mut DirBlocks,
 ) -> Result<(), MountHalt>
     requires stands { MayStand number inode.now }
-    requires spelled { Told (D.means disk.old) (λ sectors. SpellsInode (sector sectors (36 + number)) inode.now) }
+    requires spelled { Told (D.means disk.old) (λ sectors. SpellsInode (sector sectors (at_inode number)) inode.now) }
     requires own { (D.means disk.old).key ≡ port.now.view }
     ensures reads { ReadsOnly (LacksBlock number) (D.means disk.old) port.now.view (D.fault_count disk.old) result (D.means disk.new) (D.fault_count disk.new) }
     ensures ok { OnOk result (Told (D.means disk.old) (λ sectors. IsNodeRead sectors number inode.now directory.new)) }
@@ -115,15 +117,15 @@ pub(crate) fn read_directories<D: PortDisk>(
     inodes: &[Inode],
     directories: &mut [DirBlocks],
 ) -> Result<(), MountHalt>
-    requires inode_count { length inodes.now ≡ 512 }
-    requires directory_count { length directories.old ≡ 512 }
-    requires stand { MayAllStand 512 inodes.now }
-    requires read { Told (D.means disk.old) (λ sectors. AreInodesRead sectors 512 inodes.now) }
+    requires inode_count { length inodes.now ≡ limits.inodes }
+    requires directory_count { length directories.old ≡ limits.inodes }
+    requires stand { MayAllStand limits.inodes inodes.now }
+    requires read { Told (D.means disk.old) (λ sectors. AreInodesRead sectors limits.inodes inodes.now) }
     requires own { (D.means disk.old).key ≡ port.now.view }
     ensures reads { ReadsOnly FirstBlock (D.means disk.old) port.now.view (D.fault_count disk.old) result (D.means disk.new) (D.fault_count disk.new) }
-    ensures ok { OnOk result (Told (D.means disk.old) (λ sectors. AreNodesRead sectors 512 inodes.now directories.new)) }
+    ensures ok { OnOk result (Told (D.means disk.old) (λ sectors. AreNodesRead sectors limits.inodes inodes.now directories.new)) }
     ensures nodes { OnOk result (AreNodes inodes.now directories.new) }
-    ensures count { length directories.new ≡ 512 }
+    ensures count { length directories.new ≡ limits.inodes }
 {
     for number in 0..INODES as u32 {
         let at = number as usize;
@@ -143,13 +145,13 @@ pub(crate) fn read_nodes<D: PortDisk>(
     inodes: &mut [Inode],
     directories: &mut [DirBlocks],
 ) -> Result<(), MountHalt>
-    requires inodes { length inodes.old ≡ 512 }
-    requires directories { length directories.old ≡ 512 }
+    requires inodes { length inodes.old ≡ limits.inodes }
+    requires directories { length directories.old ≡ limits.inodes }
     ensures reads { ReadsOnly FirstNode (D.means disk.old) port.now.view (D.fault_count disk.old) result (D.means disk.new) (D.fault_count disk.new) }
-    ensures ok { OnOk result (Told (D.means disk.old) (λ sectors. AreNodesRead sectors 512 inodes.new directories.new)) }
+    ensures ok { OnOk result (Told (D.means disk.old) (λ sectors. AreNodesRead sectors limits.inodes inodes.new directories.new)) }
     ensures nodes { AreNodes inodes.new directories.new }
-    ensures inode_count { length inodes.new ≡ 512 }
-    ensures directory_count { length directories.new ≡ 512 }
+    ensures inode_count { length inodes.new ≡ limits.inodes }
+    ensures directory_count { length directories.new ≡ limits.inodes }
 {
     match read_inodes(port, disk, inodes) {
         Ok(()) => {}

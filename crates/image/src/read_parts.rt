@@ -1,4 +1,6 @@
 ghost use Rattle.std.specs.Prelude.{◌≡◌, ◌≤◌, ◌<◌, ◌+◌, ◌↔◌, length, OnOk, IsTrue};
+ghost use Rattle.cal_base.specs.Limits as limits;
+ghost use Rattle.shared_disk.specs.Map.{at_head, at_map, at_slot, at_inode};
 ghost use Rattle.directory.specs.Directory.{Continues};
 ghost use Rattle.inode.specs.Inode.{SpellsInode};
 ghost use Rattle.inode.specs.declared.inode.Kind.TheVariants.{Dir};
@@ -12,29 +14,17 @@ ghost use Rattle.image.specs.Damage.{BreaksOff, LacksHead, LacksInode, LacksMap,
 ghost use Rattle.image.specs.Mount.{IsCount, MayStand, NoDamage, ReadsOnly, Told};
 
 use crate::mount_halt::MountHalt;
-use cal_base::Sector;
+use cal_base::{BLOCK_SIZE, Sector};
 use directory::DirBlocks;
 use fence::Port;
 use inode::{Inode, Kind, read_inode};
 use request_log::{Slot, read_slot};
-use shared_disk::PortDisk;
+use shared_disk::{AT_HEAD, AT_MAP, FIRST_BLOCK, FIRST_INODE, FIRST_SLOT, PortDisk};
 use space_map::SpaceMap;
 use volume::read_head;
 
-/// The sector of the head.
-const HEAD: u32 = 0;
-
-/// The sector of the map.
-const MAP: u32 = 19;
-
-/// The sector of the first client's slot.
-const FIRST_SLOT: u32 = 20;
-
-/// The sector of the root's inode.
-const FIRST_INODE: u32 = 36;
-
 /// Pointer 1 is the data block in the next sector.
-pub(crate) const BEFORE_BLOCKS: u32 = 547;
+pub(crate) const BEFORE_BLOCKS: u32 = FIRST_BLOCK - 1;
 
 /// Reads a sector.
 pub(crate) fn read_sector<D: PortDisk>(
@@ -43,7 +33,7 @@ pub(crate) fn read_sector<D: PortDisk>(
     at: u32,
     into: &mut Sector,
 ) -> Result<(), MountHalt>
-    requires { at < 2596 }
+    requires { at < limits.sectors }
     ensures reads { ReadsOnly NoDamage (D.means disk.old) port.now.view (D.fault_count disk.old) result (D.means disk.new) (D.fault_count disk.new) }
     ensures ok { OnOk result (SectorIs (D.means disk.old) at into.new) }
 {
@@ -58,11 +48,11 @@ pub(crate) fn read_clients<D: PortDisk>(
     clients: &mut u8,
 ) -> Result<(), MountHalt>
     ensures reads { ReadsOnly LacksHead (D.means disk.old) port.now.view (D.fault_count disk.old) result (D.means disk.new) (D.fault_count disk.new) }
-    ensures ok { OnOk result (Told (D.means disk.old) (λ sectors. SpellsHead (sector sectors 0) clients.new)) }
+    ensures ok { OnOk result (Told (D.means disk.old) (λ sectors. SpellsHead (sector sectors at_head) clients.new)) }
     ensures kept { IsCount clients.old → IsCount clients.new }
 {
-    let mut sector = [0; 4096];
-    match read_sector(port, disk, HEAD, &mut sector) {
+    let mut sector = [0; BLOCK_SIZE];
+    match read_sector(port, disk, AT_HEAD, &mut sector) {
         Ok(()) => {}
         Err(halt) => return Err(halt),
     }
@@ -71,7 +61,7 @@ pub(crate) fn read_clients<D: PortDisk>(
             *clients = read;
             Ok(())
         }
-        Err(_) => Err(MountHalt::Damaged { sector: HEAD }),
+        Err(_) => Err(MountHalt::Damaged { sector: AT_HEAD }),
     }
 }
 
@@ -82,11 +72,11 @@ pub(crate) fn read_map<D: PortDisk>(
     map: &mut SpaceMap,
 ) -> Result<(), MountHalt>
     ensures reads { ReadsOnly LacksMap (D.means disk.old) port.now.view (D.fault_count disk.old) result (D.means disk.new) (D.fault_count disk.new) }
-    ensures ok { OnOk result (Told (D.means disk.old) (λ sectors. SpellsMap (sector sectors 19) map.new)) }
-    ensures kept { length map.old ≡ 2048 → length map.new ≡ 2048 }
+    ensures ok { OnOk result (Told (D.means disk.old) (λ sectors. SpellsMap (sector sectors at_map) map.new)) }
+    ensures kept { length map.old ≡ limits.blocks → length map.new ≡ limits.blocks }
 {
-    let mut sector = [0; 4096];
-    match read_sector(port, disk, MAP, &mut sector) {
+    let mut sector = [0; BLOCK_SIZE];
+    match read_sector(port, disk, AT_MAP, &mut sector) {
         Ok(()) => {}
         Err(halt) => return Err(halt),
     }
@@ -95,7 +85,7 @@ pub(crate) fn read_map<D: PortDisk>(
             *map = read;
             Ok(())
         }
-        Err(_) => Err(MountHalt::Damaged { sector: MAP }),
+        Err(_) => Err(MountHalt::Damaged { sector: AT_MAP }),
     }
 }
 
@@ -106,12 +96,12 @@ pub(crate) fn read_client_slot<D: PortDisk>(
     client: u32,
     slot: &mut Slot,
 ) -> Result<(), MountHalt>
-    requires { client < 16 }
+    requires { client < limits.clients }
     ensures reads { ReadsOnly (LacksSlot client) (D.means disk.old) port.now.view (D.fault_count disk.old) result (D.means disk.new) (D.fault_count disk.new) }
-    ensures ok { OnOk result (Told (D.means disk.old) (λ sectors. SpellsSlot (sector sectors (20 + client)) slot.new)) }
+    ensures ok { OnOk result (Told (D.means disk.old) (λ sectors. SpellsSlot (sector sectors (at_slot client)) slot.new)) }
     ensures kept { IsSlot slot.old → IsSlot slot.new }
 {
-    let mut sector = [0; 4096];
+    let mut sector = [0; BLOCK_SIZE];
     match read_sector(port, disk, FIRST_SLOT + client, &mut sector) {
         Ok(()) => {}
         Err(halt) => return Err(halt),
@@ -144,12 +134,12 @@ pub(crate) fn load_inode<D: PortDisk>(
     number: u32,
     inode: &mut Inode,
 ) -> Result<(), MountHalt>
-    requires { number < 512 }
+    requires { number < limits.inodes }
     ensures reads { ReadsOnly (LacksInode number) (D.means disk.old) port.now.view (D.fault_count disk.old) result (D.means disk.new) (D.fault_count disk.new) }
-    ensures ok { OnOk result (Told (D.means disk.old) (λ sectors. SpellsInode (sector sectors (36 + number)) inode.new)) }
+    ensures ok { OnOk result (Told (D.means disk.old) (λ sectors. SpellsInode (sector sectors (at_inode number)) inode.new)) }
     ensures stands { OnOk result (MayStand number inode.new) }
 {
-    let mut sector = [0; 4096];
+    let mut sector = [0; BLOCK_SIZE];
     match read_sector(port, disk, FIRST_INODE + number, &mut sector) {
         Ok(()) => {}
         Err(halt) => return Err(halt),
@@ -175,13 +165,13 @@ pub(crate) fn read_block<D: PortDisk>(
     directory: &mut DirBlocks,
 ) -> Result<(), MountHalt>
     requires block { 1 ≤ pointer }
-    requires within { pointer ≤ 2048 }
-    requires room { length directory.old < 1024 }
+    requires within { pointer ≤ limits.blocks }
+    requires room { length directory.old < limits.directory_entries }
     ensures reads { ReadsOnly (BreaksOff directory.old pointer) (D.means disk.old) port.now.view (D.fault_count disk.old) result (D.means disk.new) (D.fault_count disk.new) }
     ensures ok { OnOk result (Told (D.means disk.old) (λ sectors. Continues directory.old (pointed sectors pointer) directory.new)) }
-    ensures more { OnOk result (length directory.new ≡ length directory.old + 128) }
+    ensures more { OnOk result (length directory.new ≡ length directory.old + limits.slots_per_block) }
 {
-    let mut sector = [0; 4096];
+    let mut sector = [0; BLOCK_SIZE];
     match read_sector(port, disk, BEFORE_BLOCKS + pointer as u32, &mut sector) {
         Ok(()) => {}
         Err(halt) => return Err(halt),

@@ -1,4 +1,5 @@
 ghost use Rattle.std.specs.Prelude.{◌≡◌, ◌≤◌, ◌<◌, IfOk};
+ghost use Rattle.cal_base.specs.Limits as limits;
 ghost use Rattle.std.specs.List.{list_any};
 ghost use Rattle.tree_law.specs.Needs.{touches};
 ghost use Rattle.tree_law.specs.Path.{IsPath};
@@ -71,7 +72,7 @@ pub(crate) fn place_of(entries: &DirBlocks, name: &[u8]) -> u16
 impl Image {
     /// The edit of an inode that loses its last name.
     pub(crate) fn inode_gone(&self, opened: &[Ino], ino: Ino) -> InodeEdit
-        requires { ino.0 ≤ 511 }
+        requires { ino.0 < limits.inodes }
         ensures { result ≡ inode_gone self.now opened.now ino }
     {
         InodeEdit {
@@ -82,7 +83,7 @@ impl Image {
 
     /// The leaving of a name from a directory.
     pub(crate) fn leaving_of(&self, directory: Ino, name: &[u8]) -> Leaving
-        requires { directory.0 ≤ 511 }
+        requires { directory.0 < limits.inodes }
         ensures { result ≡ leaving_of self.now directory name.now }
     {
         Leaving {
@@ -100,7 +101,7 @@ impl Image {
         path: &Path,
         opened: &[Ino],
     ) -> Result<ChangePlan, Oom>
-        requires { client.0 < 16 }
+        requires { client.0 < limits.clients }
         ensures path { IsPath path.now }
         ensures plan { IfOk result (λ p. plan_of p ≡ removing_at self.now client number opened.now (touches (shown self.now) (Unlink path.now)) (parent_of (shown self.now) path.now) (file_named (shown self.now) path.now) (last_of path.now)) }
     {
@@ -120,7 +121,7 @@ impl Image {
         path: &Path,
         opened: &[Ino],
     ) -> Result<ChangePlan, Oom>
-        requires { client.0 < 16 }
+        requires { client.0 < limits.clients }
         ensures path { IsPath path.now }
         ensures plan { IfOk result (λ p. plan_of p ≡ removing_at self.now client number opened.now (touches (shown self.now) (Rmdir path.now)) (parent_of (shown self.now) path.now) (removable (shown self.now) path.now) (last_of path.now)) }
     {
@@ -145,9 +146,9 @@ impl Image {
         ino: Result<Ino, Why>,
         name: &[u8],
     ) -> ChangePlan
-        requires client { client.0 < 16 }
-        requires place { IfOk place (λ place. place.0 ≤ 511) }
-        requires ino { IfOk ino (λ ino. ino.0 ≤ 511) }
+        requires client { client.0 < limits.clients }
+        requires place { IfOk place (λ place. place.0 < limits.inodes) }
+        requires ino { IfOk ino (λ ino. ino.0 < limits.inodes) }
         ensures { plan_of result ≡ removing_at self.now client number opened.now (touch_numbers touches) place ino name.now }
     {
         match ino {
@@ -170,9 +171,9 @@ impl Image {
         ino: Ino,
         name: &[u8],
     ) -> ChangePlan
-        requires client { client.0 < 16 }
-        requires place { place.0 ≤ 511 }
-        requires ino { ino.0 ≤ 511 }
+        requires client { client.0 < limits.clients }
+        requires place { place.0 < limits.inodes }
+        requires ino { ino.0 < limits.inodes }
         ensures { plan_of result ≡ removing self.now client number opened.now (touch_numbers touches) place ino name.now }
     {
         ChangePlan {

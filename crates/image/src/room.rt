@@ -1,8 +1,9 @@
 ghost use Rattle.std.specs.Prelude.{◌≡◌, IfOk, replicate};
+ghost use Rattle.cal_base.specs.Limits as limits;
 ghost use Rattle.volume_edit.specs.Edit.{first_slot};
 ghost use Rattle.image.specs.Image.{fresh_inodes, fresh_slots, no_directories};
 
-use cal_base::{CLIENTS, INODES, Oom};
+use cal_base::{CLIENTS, FILE_BLOCKS, INODES, Oom};
 use directory::DirBlocks;
 use inode::{Inode, Kind};
 use request_log::Slot;
@@ -34,13 +35,13 @@ pub(crate) fn room_for_slots(alloc: Global) -> Result<Vec<Slot>, Oom>
 
 /// An inode without blocks.
 pub(crate) fn blank_inode(kind: Kind, named: bool) -> Inode
-    ensures { result ≡ (record { kind = kind; named = named; size = 0; blocks = replicate 64 0 }) }
+    ensures { result ≡ (record { kind = kind; named = named; size = 0; blocks = replicate limits.file_blocks 0 }) }
 {
     Inode {
         kind,
         named,
         size: 0,
-        blocks: [0; 64],
+        blocks: [0; FILE_BLOCKS],
     }
 }
 

@@ -1,21 +1,11 @@
 -- What a client's slot has of a history. A history stands newest first.
-use Rattle.std.specs.Prelude.{◌==◌, ◌+◌, ◌&&◌, ℕ, Bool, true, false, List, [], ◌∷◌, if◌then◌else◌}
+use Rattle.std.specs.Prelude.{◌==◌, ◌+◌, ◌&&◌, ℕ, List, [], ◌∷◌, if◌then◌else◌}
 use Rattle.cal_base.specs.declared.identity.ClientId.{ClientId}
-use Rattle.tree_law.specs.declared.call.Call.{Call}
-use Rattle.tree_law.specs.declared.call.Call.TheVariants.{Create, Mkdir, Unlink, Rmdir, Rename}
+use Rattle.tree_law.specs.Change.{is_change}
 use Rattle.tree_law.specs.declared.entry.Entry.{Entry}
 use Rattle.tree_law.specs.declared.entry.Entry.TheVariants.{Call as Called, Flush, Purge}
 use Rattle.tree_law.specs.declared.reply.Reply.{Reply}
 use Rattle.tree_law.specs.declared.reply.Reply.TheVariants.{Done}
-
--- a call that a server carries out: a change of the tree
-abbrev pub is_change : Call → Bool
-is_change (Create path) = true
-is_change (Mkdir path) = true
-is_change (Unlink path) = true
-is_change (Rmdir path) = true
-is_change (Rename path goal) = true
-is_change _ = false
 
 -- the number and the reply of a change, with 0 and `ok` for none
 pub record Change : Type 0 where

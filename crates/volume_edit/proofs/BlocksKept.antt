@@ -1,6 +1,7 @@
 -- An edit that takes free blocks keeps the map: a block is in use exactly if a pointer names it, and no two
 -- pointers name one block.
-use Rattle.std.proofs.Common.{◌≡◌, ◌≢◌, ◌≤◌, ◌<◌, ◌+◌, ◌/◌, ℕ, Bool, true, false, List, length, Option, Some, None, slice_get, slice_index, refl, sym, ◌∙◌, subst, arith}
+use Rattle.std.proofs.Common.{◌≡◌, ◌≢◌, ◌<◌, ◌+◌, ◌/◌, ℕ, Bool, true, false, List, length, Option, Some, None, slice_get, slice_index, refl, sym, ◌∙◌, subst, arith}
+use Rattle.cal_base.specs.Limits as limits
 use Rattle.std.specs.Prelude.{IfSome}
 use Rattle.std.proofs.Math.ListN.{length-set}
 use Rattle.std.proofs.lemmas.List.{get_or-set_other}
@@ -54,7 +55,7 @@ inode_as_it_was inodes None number stays = refl
 inode_as_it_was inodes (Some e) number stays = get_or-set_other inodes e.ino.0 number e.inode free_inode (λ (same : number ≡ e.ino.0). eqb-false e.ino.0 number stays (sym same))
 
 -- a directory with fewer than 1,024 slots has room for a pointer
-room_by : (inode : Inode) (k : Kind) (slots : Slots) → k ≡ Dir → IsInode inode → KindAllows k inode → HasSlots k inode slots → length slots < 1024 → HasRoom inode
+room_by : (inode : Inode) (k : Kind) (slots : Slots) → k ≡ Dir → IsInode inode → KindAllows k inode → HasSlots k inode slots → length slots < limits.directory_entries → HasRoom inode
 room_by inode k slots dir is allowed has fewer =
     let d : IsDirInode inode = subst (λ (x : Kind). KindAllows x inode) dir allowed in
     let s : IsSized inode slots = subst (λ (x : Kind). HasSlots x inode slots) dir has in
@@ -62,7 +63,7 @@ room_by inode k slots dir is allowed has fewer =
     let long = is.count in
     record { within = omega arith; hole = d.holes (inode.size / 4096) (omega arith) }
 
-pub directory_room : (v : Volume) (number : ℕ) → IsVolume v → number ≤ 511 → (inode_at v.inodes number).kind ≡ Dir → length (slots_of v number) < 1024 → HasRoom (inode_at v.inodes number)
+pub directory_room : (v : Volume) (number : ℕ) → IsVolume v → number < limits.inodes → (inode_at v.inodes number).kind ≡ Dir → length (slots_of v number) < limits.directory_entries → HasRoom (inode_at v.inodes number)
 directory_room v number is within dir fewer =
     let there = there_at v.inodes number (let b = is.inode_count in omega arith) in
     let inode = is.inodes number (inode_at v.inodes number) there in

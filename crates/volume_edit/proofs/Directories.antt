@@ -1,5 +1,6 @@
 -- What an edit makes of the slots of each directory.
 use Rattle.std.proofs.Common.{◌≡◌, ◌≢◌, ◌<◌, ◌*◌, ◌/◌, ◌++◌, ℕ, false, List, [], length, replicate, Option, Some, None, refl, sym, ap, ◌∙◌, subst, inl, inr, arith, get_or}
+use Rattle.cal_base.specs.Limits as limits
 use Rattle.std.specs.Prelude.{IfSome, slice_set}
 use Rattle.std.proofs.lemmas.Bool.{cases_lt, eqb-false}
 use Rattle.std.proofs.lemmas.List.{get_or-set_other, get_or-set_same, get_or_past, length-set, nil_from_length}
@@ -46,7 +47,7 @@ with_grown-other : (o : Option Growth) (ds : List Slots) (m : ℕ) → is_grown 
 with_grown-other None ds m apart = refl
 with_grown-other (Some g) ds m apart = with_slots-other ds g.directory.0 (λ slots. slots ++ replicate 128 None) m (λ same. eqb-false g.directory.0 m apart (sym same))
 
-with_grown-each : (v : Volume) (e : Edit) (o : Option Growth) → IfSome o (IsGrowth v e) → length v.directories ≡ 512 → ((m : ℕ) → IsDirectory (slots_of v m)) → (m : ℕ) → IsDirectory (get_or (with_grown v.directories o) m [])
+with_grown-each : (v : Volume) (e : Edit) (o : Option Growth) → IfSome o (IsGrowth v e) → length v.directories ≡ limits.inodes → ((m : ℕ) → IsDirectory (slots_of v m)) → (m : ℕ) → IsDirectory (get_or (with_grown v.directories o) m [])
 with_grown-each v e None h long each m = each m
 with_grown-each v e (Some g) h long each m =
     let to_511 = h.directory.to_511 in
@@ -57,17 +58,17 @@ length-with_left : (o : Option Leaving) (ds : List Slots) → length (with_left 
 length-with_left None ds = refl
 length-with_left (Some l) ds = length-with_slots ds l.directory.0 (λ slots. slice_set slots l.place None)
 
-with_left-count : (v : Volume) (e : Edit) (o : Option Leaving) (ds : List Slots) → IfSome o (IsLeaving v e) → length ds ≡ 512 → (m : ℕ) → length (get_or (with_left ds o) m []) ≡ length (get_or ds m [])
+with_left-count : (v : Volume) (e : Edit) (o : Option Leaving) (ds : List Slots) → IfSome o (IsLeaving v e) → length ds ≡ limits.inodes → (m : ℕ) → length (get_or (with_left ds o) m []) ≡ length (get_or ds m [])
 with_left-count v e None ds h long m = refl
 with_left-count v e (Some l) ds h long m = (let to_511 = h.directory.to_511 in length-with_one ds l.directory.0 l.place None m (omega arith))
 
-with_left-each : (v : Volume) (e : Edit) (o : Option Leaving) (ds : List Slots) → IfSome o (IsLeaving v e) → length ds ≡ 512 → ((m : ℕ) → IsDirectory (get_or ds m [])) → (m : ℕ) → IsDirectory (get_or (with_left ds o) m [])
+with_left-each : (v : Volume) (e : Edit) (o : Option Leaving) (ds : List Slots) → IfSome o (IsLeaving v e) → length ds ≡ limits.inodes → ((m : ℕ) → IsDirectory (get_or ds m [])) → (m : ℕ) → IsDirectory (get_or (with_left ds o) m [])
 with_left-each v e None ds h long each m = each m
 with_left-each v e (Some l) ds h long each m =
     let to_511 = h.directory.to_511 in
     with_slots-each IsDirectory ds l.directory.0 (λ slots. slice_set slots l.place None) (omega arith) each (directory_removed (get_or ds l.directory.0 []) l.place (each l.directory.0)) m
 
-with_left-block : (v : Volume) (e : Edit) (o : Option Leaving) (ds : List Slots) → IfSome o (IsLeaving v e) → length ds ≡ 512 → (m block : ℕ) → ((l : Leaving) → o ≡ Some l → l.directory.0 ≡ m → l.place / 128 ≢ block)
+with_left-block : (v : Volume) (e : Edit) (o : Option Leaving) (ds : List Slots) → IfSome o (IsLeaving v e) → length ds ≡ limits.inodes → (m block : ℕ) → ((l : Leaving) → o ≡ Some l → l.directory.0 ≡ m → l.place / 128 ≢ block)
     → block_slots (get_or (with_left ds o) m []) block ≡ block_slots (get_or ds m []) block
 with_left-block v e None ds h long m block apart = refl
 with_left-block v e (Some l) ds h long m block apart = (let to_511 = h.directory.to_511 in block-with_one ds l.directory.0 l.place None m block (omega arith) (apart l refl))
@@ -77,18 +78,18 @@ length-with_entered : (o : Option Entering) (ds : List Slots) → length (with_e
 length-with_entered None ds = refl
 length-with_entered (Some n) ds = length-with_slots ds n.directory.0 (λ slots. slice_set slots n.place (Some n.entry))
 
-with_entered-count : (v : Volume) (e : Edit) (o : Option Entering) (ds : List Slots) → IfSome o (IsEntering v e) → length ds ≡ 512 → (m : ℕ) → length (get_or (with_entered ds o) m []) ≡ length (get_or ds m [])
+with_entered-count : (v : Volume) (e : Edit) (o : Option Entering) (ds : List Slots) → IfSome o (IsEntering v e) → length ds ≡ limits.inodes → (m : ℕ) → length (get_or (with_entered ds o) m []) ≡ length (get_or ds m [])
 with_entered-count v e None ds h long m = refl
 with_entered-count v e (Some n) ds h long m = (let to_511 = h.directory.to_511 in length-with_one ds n.directory.0 n.place (Some n.entry) m (omega arith))
 
-with_entered-each : (v : Volume) (e : Edit) (o : Option Entering) → IfSome o (IsEntering v e) → length (left_slots v e) ≡ 512 → ((m : ℕ) → IsDirectory (get_or (left_slots v e) m [])) → (m : ℕ) → IsDirectory (get_or (with_entered (left_slots v e) o) m [])
+with_entered-each : (v : Volume) (e : Edit) (o : Option Entering) → IfSome o (IsEntering v e) → length (left_slots v e) ≡ limits.inodes → ((m : ℕ) → IsDirectory (get_or (left_slots v e) m [])) → (m : ℕ) → IsDirectory (get_or (with_entered (left_slots v e) o) m [])
 with_entered-each v e None h long each m = each m
 with_entered-each v e (Some n) h long each m =
     let to_511 = h.directory.to_511 in
     with_slots-each IsDirectory (left_slots v e) n.directory.0 (λ slots. slice_set slots n.place (Some n.entry)) (omega arith) each
     (directory_entered (get_or (left_slots v e) n.directory.0 []) n.place n.entry (each n.directory.0) h.entry h.alone) m
 
-with_entered-block : (v : Volume) (e : Edit) (o : Option Entering) (ds : List Slots) → IfSome o (IsEntering v e) → length ds ≡ 512 → (m block : ℕ) → ((n : Entering) → o ≡ Some n → n.directory.0 ≡ m → n.place / 128 ≢ block)
+with_entered-block : (v : Volume) (e : Edit) (o : Option Entering) (ds : List Slots) → IfSome o (IsEntering v e) → length ds ≡ limits.inodes → (m block : ℕ) → ((n : Entering) → o ≡ Some n → n.directory.0 ≡ m → n.place / 128 ≢ block)
     → block_slots (get_or (with_entered ds o) m []) block ≡ block_slots (get_or ds m []) block
 with_entered-block v e None ds h long m block apart = refl
 with_entered-block v e (Some n) ds h long m block apart = (let to_511 = h.directory.to_511 in block-with_one ds n.directory.0 n.place (Some n.entry) m block (omega arith) (apart n refl))
@@ -109,7 +110,7 @@ without_slots-other : (o : Option InodeEdit) (ds : List Slots) (m : ℕ) → is_
 without_slots-other None ds m other = refl
 without_slots-other (Some i) ds m other = get_or-set_other ds i.ino.0 m [] [] (λ same. eqb-false i.ino.0 m other (sym same))
 
-without_slots-each : (o : Option InodeEdit) (ds : List Slots) → IfSome o IsInodeEdit → length ds ≡ 512 → ((m : ℕ) → IsDirectory (get_or ds m [])) → (m : ℕ) → IsDirectory (get_or (without_slots ds o) m [])
+without_slots-each : (o : Option InodeEdit) (ds : List Slots) → IfSome o IsInodeEdit → length ds ≡ limits.inodes → ((m : ℕ) → IsDirectory (get_or ds m [])) → (m : ℕ) → IsDirectory (get_or (without_slots ds o) m [])
 without_slots-each None ds h long each m = each m
 without_slots-each (Some i) ds h long each m =
     let to_511 = h.to_511 in
@@ -126,39 +127,39 @@ pub length-directories : (v : Volume) (e : Edit) → length (edited v e).directo
 length-directories v e = length-without_slots e.inode (entered_slots v e) ∙ length-entered_slots v e
 
 -- the count of a directory's slots, after all
-pub slots_put : (v : Volume) (e : Edit) (i : InodeEdit) → length v.directories ≡ 512 → IsEdit v e → e.inode ≡ Some i → slots_of (edited v e) i.ino.0 ≡ []
+pub slots_put : (v : Volume) (e : Edit) (i : InodeEdit) → length v.directories ≡ limits.inodes → IsEdit v e → e.inode ≡ Some i → slots_of (edited v e) i.ino.0 ≡ []
 slots_put v e i long h is =
     let to_511 = (some_has IsInodeEdit e.inode i h.inode is).to_511 in
     without_slots-same e.inode (entered_slots v e) i is (let l = length-entered_slots v e in omega arith)
 
-count_left : (v : Volume) (e : Edit) (m : ℕ) → length v.directories ≡ 512 → IsEdit v e → length (get_or (left_slots v e) m []) ≡ length (get_or (grown_slots v e) m [])
+count_left : (v : Volume) (e : Edit) (m : ℕ) → length v.directories ≡ limits.inodes → IsEdit v e → length (get_or (left_slots v e) m []) ≡ length (get_or (grown_slots v e) m [])
 count_left v e m long h = with_left-count v e e.leaving (grown_slots v e) h.leaving (length-with_grown e.growth v.directories ∙ long) m
 
-count_past : (v : Volume) (e : Edit) (m : ℕ) → length v.directories ≡ 512 → IsEdit v e → is_edited e.inode m ≡ false → length (slots_of (edited v e) m) ≡ length (get_or (grown_slots v e) m [])
+count_past : (v : Volume) (e : Edit) (m : ℕ) → length v.directories ≡ limits.inodes → IsEdit v e → is_edited e.inode m ≡ false → length (slots_of (edited v e) m) ≡ length (get_or (grown_slots v e) m [])
 count_past v e m long h other =
     ap length (without_slots-other e.inode (entered_slots v e) m other)
     ∙ with_entered-count v e e.entering (left_slots v e) h.entering (length-left_slots v e ∙ long) m
     ∙ count_left v e m long h
 
-pub count_kept : (v : Volume) (e : Edit) (m : ℕ) → length v.directories ≡ 512 → IsEdit v e → is_edited e.inode m ≡ false → is_grown e.growth m ≡ false → length (slots_of (edited v e) m) ≡ length (slots_of v m)
+pub count_kept : (v : Volume) (e : Edit) (m : ℕ) → length v.directories ≡ limits.inodes → IsEdit v e → is_edited e.inode m ≡ false → is_grown e.growth m ≡ false → length (slots_of (edited v e) m) ≡ length (slots_of v m)
 count_kept v e m long h other apart = count_past v e m long h other ∙ ap length (with_grown-other e.growth v.directories m apart)
 
-pub slots_grown : (v : Volume) (e : Edit) (g : Growth) → length v.directories ≡ 512 → IsEdit v e → e.growth ≡ Some g → get_or (grown_slots v e) g.directory.0 [] ≡ slots_of v g.directory.0 ++ replicate 128 None
+pub slots_grown : (v : Volume) (e : Edit) (g : Growth) → length v.directories ≡ limits.inodes → IsEdit v e → e.growth ≡ Some g → get_or (grown_slots v e) g.directory.0 [] ≡ slots_of v g.directory.0 ++ replicate 128 None
 slots_grown v e g long h is =
     let to_511 = (some_has (IsGrowth v e) e.growth g h.growth is).directory.to_511 in
     with_grown-same e.growth v.directories g is (omega arith)
 
-pub count_grown : (v : Volume) (e : Edit) (g : Growth) → length v.directories ≡ 512 → IsEdit v e → e.growth ≡ Some g → length (slots_of (edited v e) g.directory.0) ≡ length (slots_of v g.directory.0 ++ replicate 128 None)
+pub count_grown : (v : Volume) (e : Edit) (g : Growth) → length v.directories ≡ limits.inodes → IsEdit v e → e.growth ≡ Some g → length (slots_of (edited v e) g.directory.0) ≡ length (slots_of v g.directory.0 ++ replicate 128 None)
 count_grown v e g long h is =
     let of = (some_has (IsGrowth v e) e.growth g h.growth is).directory in
     count_past v e g.directory.0 long h of.stays ∙ ap length (slots_grown v e g long h is)
 
 -- where an entry comes there is a slot
-pub count_left_past : (v : Volume) (e : Edit) (m : ℕ) → length v.directories ≡ 512 → IsEdit v e → is_edited e.inode m ≡ false → length (slots_of (edited v e) m) ≡ length (get_or (left_slots v e) m [])
+pub count_left_past : (v : Volume) (e : Edit) (m : ℕ) → length v.directories ≡ limits.inodes → IsEdit v e → is_edited e.inode m ≡ false → length (slots_of (edited v e) m) ≡ length (get_or (left_slots v e) m [])
 count_left_past v e m long h other = count_past v e m long h other ∙ sym (count_left v e m long h)
 
 -- a block in which no slot is changed
-pub block_kept : (v : Volume) (e : Edit) (m block : ℕ) → length v.directories ≡ 512 → IsEdit v e → is_edited e.inode m ≡ false
+pub block_kept : (v : Volume) (e : Edit) (m block : ℕ) → length v.directories ≡ limits.inodes → IsEdit v e → is_edited e.inode m ≡ false
     → ((l : Leaving) → e.leaving ≡ Some l → l.directory.0 ≡ m → l.place / 128 ≢ block) → ((n : Entering) → e.entering ≡ Some n → n.directory.0 ≡ m → n.place / 128 ≢ block)
     → block_slots (slots_of (edited v e) m) block ≡ block_slots (get_or (grown_slots v e) m []) block
 block_kept v e m block long h other left entered =

@@ -1,5 +1,6 @@
 -- An edit keeps a volume within its grammar.
 use Rattle.std.proofs.Common.{◌≡◌, ◌<◌, ◌≤◌, ◌+◌, ◌*◌, ◌/◌, ◌++◌, ℕ, zero, suc, true, false, List, [], ◌∷◌, length, replicate, Bool, Option, Some, None, refl, sym, ap, ◌∙◌, subst, inl, inr, arith, get_or}
+use Rattle.cal_base.specs.Limits as limits
 use Rattle.std.specs.Prelude.{IfSome, slice_set}
 use Rattle.std.proofs.lemmas.Bool.{cases_eq, ne_eqb}
 use Rattle.std.proofs.lemmas.List.{get_or-set_other, get_or-set_same, length-set}
@@ -43,7 +44,7 @@ length-with_slot : (slots : List Slot) (o : Option SlotEdit) → length (with_sl
 length-with_slot slots None = refl
 length-with_slot slots (Some e) = length-set slots e.client.0 e.slot
 
-slot_is : (slots : List Slot) (o : Option SlotEdit) → IfSome o IsSlotEdit → length slots ≡ 16 → ((client : ℕ) → client < 16 → IsSlot (slot_at slots client)) → (client : ℕ) → client < 16 → IsSlot (slot_at (with_slot slots o) client)
+slot_is : (slots : List Slot) (o : Option SlotEdit) → IfSome o IsSlotEdit → length slots ≡ 16 → ((client : ℕ) → client < limits.clients → IsSlot (slot_at slots client)) → (client : ℕ) → client < limits.clients → IsSlot (slot_at (with_slot slots o) client)
 slot_is slots None h long each client below = each client below
 slot_is slots (Some e) h long each client below = elim (cases_eq client e.client.0) [
   | inl same ↦ (
@@ -53,7 +54,7 @@ slot_is slots (Some e) h long each client below = elim (cases_eq client e.client
 ]
 
 -- a directory's inode with a block more
-dir_grown : (inode : Inode) (block : ℕ) → IsDirInode inode → length inode.blocks ≡ 64 → inode.size ≤ 28672 → IsDirInode (grown_inode inode block)
+dir_grown : (inode : Inode) (block : ℕ) → IsDirInode inode → length inode.blocks ≡ limits.file_blocks → inode.size + limits.block_size ≤ limits.directory_size → IsDirInode (grown_inode inode block)
 dir_grown inode block d long fewer =
     let whole = d.whole in
     let last = inode.size / 4096 in
@@ -76,13 +77,13 @@ dir_grown inode block d long fewer =
           there ∙ d.holes place (omega arith));
     }
 
-small_grown : (pointers : List ℕ) (last block : ℕ) → AreSmall pointers → block < 2048 → last < length pointers → AreSmall (slice_set pointers last (block + 1))
+small_grown : (pointers : List ℕ) (last block : ℕ) → AreSmall pointers → block < limits.blocks → last < length pointers → AreSmall (slice_set pointers last (block + 1))
 small_grown pointers last block small below within place = elim (cases_eq place last) [
   | inl same ↦ (let here : get_or (slice_set pointers last (block + 1)) place 0 ≡ block + 1 = ap (λ (n : ℕ). get_or (slice_set pointers last (block + 1)) n 0) same ∙ get_or-set_same pointers last (block + 1) 0 within in omega arith)
   | inr apart ↦ (let there = get_or-set_other pointers last place (block + 1) 0 apart in let s = small place in omega arith)
 ]
 
-pub inode_grows : (inode : Inode) (block : ℕ) → inode.kind ≡ Dir → IsInode inode → inode.size ≤ 28672 → block < 2048 → IsInode (grown_inode inode block)
+pub inode_grows : (inode : Inode) (block : ℕ) → inode.kind ≡ Dir → IsInode inode → inode.size + limits.block_size ≤ limits.directory_size → block < limits.blocks → IsInode (grown_inode inode block)
 inode_grows inode block dir h fewer below =
     let long = h.count in
     record {
@@ -92,16 +93,16 @@ inode_grows inode block dir h fewer below =
     }
 
 -- each inode of a volume
-pub inode_is : (v : Volume) → IsVolume v → (number : ℕ) → number < 512 → IsInode (inode_at v.inodes number)
+pub inode_is : (v : Volume) → IsVolume v → (number : ℕ) → number < limits.inodes → IsInode (inode_at v.inodes number)
 inode_is v h number below = (let c = h.inode_count in h.inodes number (inode_at v.inodes number) (slice_get-get_or v.inodes number free_inode (omega arith)))
 
-pub count_is : (v : Volume) → IsVolume v → (number : ℕ) → number < 512 → HasCount (inode_at v.inodes number).kind (inode_at v.inodes number) (length (slots_of v number))
+pub count_is : (v : Volume) → IsVolume v → (number : ℕ) → number < limits.inodes → HasCount (inode_at v.inodes number).kind (inode_at v.inodes number) (length (slots_of v number))
 count_is v h number below =
     let c = h.inode_count in
     let inode = inode_at v.inodes number in
     has_count inode.kind inode (slots_of v number) (h.directories number inode (slice_get-get_or v.inodes number free_inode (omega arith)))
 
-pub count_dir : (v : Volume) → IsVolume v → (number : ℕ) → number < 512 → (inode_at v.inodes number).kind ≡ Dir → 4096 * length (slots_of v number) ≡ 128 * (inode_at v.inodes number).size
+pub count_dir : (v : Volume) → IsVolume v → (number : ℕ) → number < limits.inodes → (inode_at v.inodes number).kind ≡ Dir → 4096 * length (slots_of v number) ≡ 128 * (inode_at v.inodes number).size
 count_dir v h number below dir = subst (λ (k : Kind). HasCount k (inode_at v.inodes number) (length (slots_of v number))) dir (count_is v h number below)
 
 -- what an inode is after an edit, and what it has of slots
@@ -132,7 +133,7 @@ held_grown v e g h of =
           (let all : 4096 * length (slots ++ replicate 128 None) ≡ 128 * (inode.size + 4096) = omega arith in all);
     }
 
-held : (v : Volume) (e : Edit) → IsVolume v → IsEdit v e → (number : ℕ) → number < 512 → Held (inode_at (edited v e).inodes number) (slots_of (edited v e) number)
+held : (v : Volume) (e : Edit) → IsVolume v → IsEdit v e → (number : ℕ) → number < limits.inodes → Held (inode_at (edited v e).inodes number) (slots_of (edited v e) number)
 held v e h is number below = elim (which e number) [
   | put i made same ↦ (
       let of = some_has IsInodeEdit e.inode i is.inode made in
@@ -148,7 +149,7 @@ held v e h is number below = elim (which e number) [
 ]
 
 -- an inode that isn't the one of the edit keeps its kind
-pub kind_kept : (v : Volume) (e : Edit) → length v.inodes ≡ 512 → IsEdit v e → (number : ℕ) → is_edited e.inode number ≡ false → (inode_at (edited v e).inodes number).kind ≡ (inode_at v.inodes number).kind
+pub kind_kept : (v : Volume) (e : Edit) → length v.inodes ≡ limits.inodes → IsEdit v e → (number : ℕ) → is_edited e.inode number ≡ false → (inode_at (edited v e).inodes number).kind ≡ (inode_at v.inodes number).kind
 kind_kept v e long is number other = elim (does_grow e.growth number) [
   | grows g made same ↦ subst (λ (n : ℕ). (inode_at (edited v e).inodes n).kind ≡ (inode_at v.inodes n).kind) same (ap (λ (x : Inode). x.kind) (inode_grown v e g long is made))
   | stays apart ↦ ap (λ (x : Inode). x.kind) (inode_kept v e number other apart)

@@ -1,5 +1,6 @@
 -- A directory that gets a free block keeps the map.
 use Rattle.std.proofs.Common.{◌≡◌, ◌⊎◌, ◌<◌, ◌+◌, ◌/◌, ℕ, Bool, true, false, List, length, Some, slice_get, slice_index, sym, ap, ◌∙◌, subst, inl, inr, arith}
+use Rattle.cal_base.specs.Limits as limits
 use Rattle.std.specs.List.{slice_set}
 use Rattle.std.proofs.lemmas.Bool.{cases_eq}
 use Rattle.std.proofs.lemmas.List.{get_or-set_other, get_or-set_same}
@@ -58,7 +59,7 @@ points_at_new inodes directory old block there room =
     points_new inodes directory (grown_inode old block) (old.size / 4096) block (slice_get_within inodes directory old there) (get_or-set_same old.blocks (old.size / 4096) (block + 1) 0 room.within)
 
 grown_used : (free : List Bool) (inodes : List Inode) (directory : ℕ) (old : Inode) (block : ℕ) → slice_get inodes directory ≡ Some old → HasRoom old → AreKept free inodes
-    → (other : ℕ) → other < 2048 → slice_get (slice_set free block false) other ≡ Some false → IsPointed (slice_set inodes directory (grown_inode old block)) other
+    → (other : ℕ) → other < limits.blocks → slice_get (slice_set free block false) other ≡ Some false → IsPointed (slice_set inodes directory (grown_inode old block)) other
 grown_used free inodes directory old block there room kept other below e = elim (cases_eq other block) [
   | inl same ↦ record { number = directory; place = old.size / 4096; points = subst (λ (b : ℕ). Points (slice_set inodes directory (grown_inode old block)) directory (old.size / 4096) b) (sym same) (points_at_new inodes directory old block there room) }
   | inr apart ↦ (let p = (kept.used other below).0 (sym (get_set_other free block other false apart) ∙ e) in
@@ -66,14 +67,14 @@ grown_used free inodes directory old block there room kept other below e = elim 
 ]
 
 grown_pointed : (free : List Bool) (inodes : List Inode) (directory : ℕ) (old : Inode) (block : ℕ) → slice_get inodes directory ≡ Some old → HasRoom old → AreKept free inodes → slice_get free block ≡ Some true
-    → (number place other : ℕ) → other < 2048 → Points (slice_set inodes directory (grown_inode old block)) number place other → slice_get (slice_set free block false) other ≡ Some false
+    → (number place other : ℕ) → other < limits.blocks → Points (slice_set inodes directory (grown_inode old block)) number place other → slice_get (slice_set free block false) other ≡ Some false
 grown_pointed free inodes directory old block there room kept is_free number place other below p = elim (points_grown inodes directory old block number place other there room p) [
   | inl stood ↦ (let used : slice_get free other ≡ Some false = (kept.used other below).1 (record { number = number; place = place; points = stood }) in
       get_set_other free block other false (λ (same : other ≡ block). (let both : Some true ≡ Some false = sym is_free ∙ ap (slice_get free) (sym same) ∙ used in cc)) ∙ used)
   | inr new ↦ subst (λ (b : ℕ). slice_get (slice_set free block false) b ≡ Some false) (sym new.is_block) (get_set_same free block false (slice_get_within free block true is_free))
 ]
 
-grown_apart : (free : List Bool) (inodes : List Inode) (directory : ℕ) (old : Inode) (block : ℕ) → length free ≡ 2048 → slice_get inodes directory ≡ Some old → HasRoom old → AreKept free inodes → slice_get free block ≡ Some true
+grown_apart : (free : List Bool) (inodes : List Inode) (directory : ℕ) (old : Inode) (block : ℕ) → length free ≡ limits.blocks → slice_get inodes directory ≡ Some old → HasRoom old → AreKept free inodes → slice_get free block ≡ Some true
     → (i j p q other : ℕ) → Points (slice_set inodes directory (grown_inode old block)) i p other → Points (slice_set inodes directory (grown_inode old block)) j q other → (i ≡ j) × (p ≡ q)
 grown_apart free inodes directory old block long there room kept is_free i j p q other a b = elim (points_grown inodes directory old block i p other there room a) [
   | inl first ↦ elim (points_grown inodes directory old block j q other there room b) [
@@ -86,7 +87,7 @@ grown_apart free inodes directory old block long there room kept is_free i j p q
   ]
 ]
 
-pub grown_kept : (free : List Bool) (inodes : List Inode) (directory : ℕ) (old : Inode) (block : ℕ) → length free ≡ 2048 → slice_get inodes directory ≡ Some old → HasRoom old → AreKept free inodes → slice_get free block ≡ Some true
+pub grown_kept : (free : List Bool) (inodes : List Inode) (directory : ℕ) (old : Inode) (block : ℕ) → length free ≡ limits.blocks → slice_get inodes directory ≡ Some old → HasRoom old → AreKept free inodes → slice_get free block ≡ Some true
     → AreKept (slice_set free block false) (slice_set inodes directory (grown_inode old block))
 grown_kept free inodes directory old block long there room kept is_free = record {
   used = λ other below. (

@@ -1,5 +1,6 @@
 -- The pointers of inodes where one of them is set.
 use Rattle.std.proofs.Common.{◌≡◌, ◌≢◌, ◌↔◌, ◌<◌, ◌+◌, ℕ, Bool, true, false, List, length, Some, slice_get, slice_index, sym, ◌∙◌, subst, arith}
+use Rattle.cal_base.specs.Limits as limits
 use Rattle.std.specs.List.{slice_set}
 use Rattle.std.proofs.lemmas.Option.{slice_get-get_or, slice_get_within}
 use Rattle.inode.specs.declared.inode.Inode.{Inode}
@@ -9,7 +10,7 @@ use Rattle.volume_edit.specs.Edit.{free_inode, inode_at}
 
 -- the same of a map and inodes alone
 pub record AreKept (free : List Bool) (inodes : List Inode) : Type 0 where
-  pub used : (block : ℕ) → block < 2048 → (slice_get free block ≡ Some false) ↔ IsPointed inodes block
+  pub used : (block : ℕ) → block < limits.blocks → (slice_get free block ≡ Some false) ↔ IsPointed inodes block
   pub apart : (i j p q block : ℕ) → Points inodes i p block → Points inodes j q block → (i ≡ j) × (p ≡ q)
 
 -- what stands at a number is one inode
@@ -42,7 +43,7 @@ names_new inodes ino new number place block below same p =
     names_by (slice_set inodes ino new) ino place block new (get_set_same inodes ino new below) (subst (λ (n : ℕ). Points (slice_set inodes ino new) n place block) same p)
 
 -- no pointer names a free block
-pub free_unpointed : (free : List Bool) (inodes : List Inode) → length free ≡ 2048 → AreKept free inodes → (number place block : ℕ) → Points inodes number place block → slice_get free block ≡ Some true → ⊥
+pub free_unpointed : (free : List Bool) (inodes : List Inode) → length free ≡ limits.blocks → AreKept free inodes → (number place block : ℕ) → Points inodes number place block → slice_get free block ≡ Some true → ⊥
 free_unpointed free inodes long kept number place block p e =
     let below = slice_get_within free block true e in
     let used : slice_get free block ≡ Some false = (kept.used block (omega arith)).1 (record { number = number; place = place; points = p }) in

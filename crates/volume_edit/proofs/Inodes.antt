@@ -1,5 +1,6 @@
 -- What an edit makes of each inode.
 use Rattle.std.proofs.Common.{◌≡◌, ◌≢◌, ◌<◌, ℕ, false, List, length, Bool, Option, Some, None, refl, sym, ap, ◌∙◌, subst, inl, inr, arith}
+use Rattle.cal_base.specs.Limits as limits
 use Rattle.std.specs.Prelude.{IfSome, ◌==◌}
 use Rattle.std.proofs.lemmas.Bool.{cases_eq, eqb-false, ne_eqb}
 use Rattle.std.proofs.lemmas.List.{get_or-set_other, get_or-set_same, length-set}
@@ -96,14 +97,14 @@ not_grown v e None i h is = refl
 not_grown v e (Some g) i h is = ne_eqb g.directory.0 i.ino.0 (λ same. edits_other e.inode i g.directory.0 is h.directory.stays (sym same))
 
 -- the inode of the edit, where it stands
-pub inode_put : (v : Volume) (e : Edit) (i : InodeEdit) → length v.inodes ≡ 512 → IsEdit v e → e.inode ≡ Some i → inode_at (edited v e).inodes i.ino.0 ≡ i.inode
+pub inode_put : (v : Volume) (e : Edit) (i : InodeEdit) → length v.inodes ≡ limits.inodes → IsEdit v e → e.inode ≡ Some i → inode_at (edited v e).inodes i.ino.0 ≡ i.inode
 inode_put v e i long h is =
     let to_511 = (some_has IsInodeEdit e.inode i h.inode is).to_511 in
     with_growth-other e.growth (with_inode v.inodes e.inode) i.ino.0 (not_grown v e e.growth i h.growth is)
     ∙ with_inode-same e.inode v.inodes i is (omega arith)
 
 -- the inode of a directory with a block more
-pub inode_grown : (v : Volume) (e : Edit) (g : Growth) → length v.inodes ≡ 512 → IsEdit v e → e.growth ≡ Some g → inode_at (edited v e).inodes g.directory.0 ≡ grown_inode (inode_at v.inodes g.directory.0) g.block
+pub inode_grown : (v : Volume) (e : Edit) (g : Growth) → length v.inodes ≡ limits.inodes → IsEdit v e → e.growth ≡ Some g → inode_at (edited v e).inodes g.directory.0 ≡ grown_inode (inode_at v.inodes g.directory.0) g.block
 inode_grown v e g long h is =
     let of = some_has (IsGrowth v e) e.growth g h.growth is in
     let to_511 = of.directory.to_511 in

@@ -1,5 +1,6 @@
 -- What an edit leaves as it is where no home stands for it.
 use Rattle.std.proofs.Common.{◌≡◌, ◌≢◌, ◌<◌, ◌+◌, ◌*◌, ◌/◌, ◌++◌, ℕ, Bool, true, false, List, [], length, replicate, Option, Some, None, slice_get, slice_index, refl, sym, ap, ◌∙◌, subst, inl, inr, arith, get_or}
+use Rattle.cal_base.specs.Limits as limits
 use Rattle.std.specs.Prelude.{IfSome, ◌||◌, is_some, not, nat_eq}
 use Rattle.std.specs.Cmp.Lexicographic.{pointwise, same_text}
 use Rattle.std.proofs.lemmas.Bool.{cases_eq}
@@ -43,7 +44,7 @@ neither false true h = absurd (cc)
 neither true b h = absurd (cc)
 
 -- the blocks of an inode that has the same ones then
-used_by : (v : Volume) → IsVolume v → AreBlocksKept v → (number : ℕ) → number < 512 → (place block : ℕ) → slice_index (inode_at v.inodes number).blocks place ≡ block + 1 → slice_get v.free block ≡ Some false
+used_by : (v : Volume) → IsVolume v → AreBlocksKept v → (number : ℕ) → number < limits.inodes → (place block : ℕ) → slice_index (inode_at v.inodes number).blocks place ≡ block + 1 → slice_get v.free block ≡ Some false
 used_by v h kept number below place block names =
     let count = h.inode_count in
     let small = (inode_is v h number below).pointers place in

@@ -1,5 +1,6 @@
 -- The blocks of directories, after an edit.
 use Rattle.std.proofs.Common.{◌≡◌, ◌<◌, ◌≤◌, ◌*◌, ◌/◌, ℕ, false, length, slice_index, ◌∙◌, subst, arith}
+use Rattle.cal_base.specs.Limits as limits
 use Rattle.inode.specs.Inode.{IsDirInode, KindAllows}
 use Rattle.inode.specs.declared.inode.Kind.{Kind}
 use Rattle.inode.specs.declared.inode.Kind.TheVariants.{Dir}
@@ -15,11 +16,11 @@ use Rattle.volume_edit.proofs.SlotChanges.{length-grown}
 
 -- a block of a directory
 pub record IsLive (v : Volume) (number index : ℕ) : Type 0 where
-  pub to_511 : number < 512
+  pub to_511 : number < limits.inodes
   pub kind : (inode_at v.inodes number).kind ≡ Dir
   pub within : 128 * index < length (slots_of v number)
 
-pub is_dir : (v : Volume) → IsVolume v → (number : ℕ) → number < 512 → (inode_at v.inodes number).kind ≡ Dir → IsDirInode (inode_at v.inodes number)
+pub is_dir : (v : Volume) → IsVolume v → (number : ℕ) → number < limits.inodes → (inode_at v.inodes number).kind ≡ Dir → IsDirInode (inode_at v.inodes number)
 is_dir v h number below dir = subst (λ (k : Kind). KindAllows k (inode_at v.inodes number)) dir (inode_is v h number below).allowed
 
 -- it lies before the end of the directory

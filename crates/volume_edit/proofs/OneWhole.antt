@@ -1,5 +1,6 @@
 -- Two volumes within their grammar that the same sectors spell are equal.
 use Rattle.std.proofs.Common.{◌≡◌, ◌<◌, ℕ, List, [], Some, slice_get, refl, sym, ◌∙◌, subst, arith}
+use Rattle.cal_base.specs.Limits as limits
 use Rattle.std.proofs.lemmas.List.{ext_get_or}
 use Rattle.std.proofs.lemmas.Option.{slice_get-get_or}
 use Rattle.inode.specs.declared.inode.Inode.{Inode}
@@ -15,7 +16,7 @@ same_slots Free inode x y dir p q = p ∙ sym q
 same_slots File inode x y dir p q = p ∙ sym q
 same_slots Dir inode x y dir p q = dir refl
 
-same_at : (a b : Volume) → AreSame a b → IsVolume a → IsVolume b → (number : ℕ) → number < 512 → slots_of a number ≡ slots_of b number
+same_at : (a b : Volume) → AreSame a b → IsVolume a → IsVolume b → (number : ℕ) → number < limits.inodes → slots_of a number ≡ slots_of b number
 same_at a b s p q number below =
     let inodes = p.inode_count in
     let inode = inode_at a.inodes number in

@@ -1,5 +1,6 @@
 -- The pointers of directories after an edit: each is an old one, or the one that came.
 use Rattle.std.proofs.Common.{◌≡◌, ◌≢◌, ◌<◌, ◌+◌, ◌-◌, ◌*◌, ◌/◌, ℕ, true, false, [], length, Option, Some, slice_get, slice_index, refl, sym, ap, ◌∙◌, subst, inl, inr, arith}
+use Rattle.cal_base.specs.Limits as limits
 use Rattle.std.specs.Prelude.{slice_set}
 use Rattle.std.proofs.lemmas.Bool.{cases_eq}
 use Rattle.std.proofs.lemmas.List.{get_or-set_other, get_or-set_same}
@@ -19,7 +20,7 @@ use Rattle.volume_edit.proofs.Live.{IsLive, pointer_is}
 use Rattle.volume_edit.proofs.SlotChanges.{length-grown}
 
 -- a free block has no pointer
-pub free_unpointed : (v : Volume) (block : ℕ) → AreBlocksKept v → block < 2048 → slice_get v.free block ≡ Some true → IsPointed v.inodes block → ⊥
+pub free_unpointed : (v : Volume) (block : ℕ) → AreBlocksKept v → block < limits.blocks → slice_get v.free block ≡ Some true → IsPointed v.inodes block → ⊥
 free_unpointed v block kept below free pointed =
     let used : slice_get v.free block ≡ Some false = (kept.used block below).1 pointed in
     let both : Some true ≡ Some false = sym free ∙ used in

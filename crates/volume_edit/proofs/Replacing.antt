@@ -1,5 +1,6 @@
 -- An inode that takes free blocks in place of another one keeps the map.
 use Rattle.std.proofs.Common.{◌≡◌, ◌≢◌, ◌⊎◌, ◌<◌, ◌+◌, ℕ, Bool, true, false, List, length, Some, slice_get, slice_index, sym, ◌∙◌, subst, inl, inr, arith}
+use Rattle.cal_base.specs.Limits as limits
 use Rattle.std.specs.List.{slice_set}
 use Rattle.std.proofs.lemmas.Bool.{cases_eq}
 use Rattle.std.proofs.lemmas.Option.{slice_get_within}
@@ -21,8 +22,8 @@ length-remarked : (free : List Bool) (old new : Inode) → length (marked_all tr
 length-remarked free old new = length-marked_all true old.blocks free
 
 -- an inode's blocks are free, and then those of the one in its place are in use
-inode_used : (free : List Bool) (inodes : List Inode) (ino : ℕ) (old new : Inode) → length free ≡ 2048 → slice_get inodes ino ≡ Some old → AreKept free inodes
-    → (block : ℕ) → block < 2048 → slice_get (remarked free old new) block ≡ Some false → IsPointed (slice_set inodes ino new) block
+inode_used : (free : List Bool) (inodes : List Inode) (ino : ℕ) (old new : Inode) → length free ≡ limits.blocks → slice_get inodes ino ≡ Some old → AreKept free inodes
+    → (block : ℕ) → block < limits.blocks → slice_get (remarked free old new) block ≡ Some false → IsPointed (slice_set inodes ino new) block
 inode_used free inodes ino old new long there kept block below e = elim (names_or_not new.blocks block) [
   | inl n ↦ record { number = ino; place = n.place; points = points_new inodes ino new n.place block (slice_get_within inodes ino old there) n.names }
   | inr none ↦ by_old (sym (marked_apart false new.blocks (marked_all true free old.blocks) block none) ∙ e)
@@ -40,8 +41,8 @@ inode_used free inodes ino old new long there kept block below e = elim (names_o
       | inr none ↦ by_before none ((kept.used block below).0 (sym (marked_apart true old.blocks free block none) ∙ f))
     ]
 
-inode_pointed : (free : List Bool) (inodes : List Inode) (ino : ℕ) (old new : Inode) → length free ≡ 2048 → slice_get inodes ino ≡ Some old → AreKept free inodes
-    → (block number place : ℕ) → block < 2048 → Points (slice_set inodes ino new) number place block → slice_get (remarked free old new) block ≡ Some false
+inode_pointed : (free : List Bool) (inodes : List Inode) (ino : ℕ) (old new : Inode) → length free ≡ limits.blocks → slice_get inodes ino ≡ Some old → AreKept free inodes
+    → (block number place : ℕ) → block < limits.blocks → Points (slice_set inodes ino new) number place block → slice_get (remarked free old new) block ≡ Some false
 inode_pointed free inodes ino old new long there kept block number place below p = elim (names_or_not new.blocks block) [
   | inl n ↦ marked_named false new.blocks (marked_all true free old.blocks) block n.place n.names (let l = length-remarked free old new in omega arith)
   | inr none ↦ elim (cases_eq number ino) [
@@ -56,7 +57,7 @@ inode_pointed free inodes ino old new long there kept block number place below p
       | inr none ↦ marked_apart true old.blocks free block none ∙ (kept.used block below).1 (record { number = number; place = place; points = before })
     ]
 
-inode_apart : (free : List Bool) (inodes : List Inode) (ino : ℕ) (old new : Inode) → length free ≡ 2048 → slice_get inodes ino ≡ Some old → AreKept free inodes → TakesFreeBlocks free old new
+inode_apart : (free : List Bool) (inodes : List Inode) (ino : ℕ) (old new : Inode) → length free ≡ limits.blocks → slice_get inodes ino ≡ Some old → AreKept free inodes → TakesFreeBlocks free old new
     → (i j p q block : ℕ) → Points (slice_set inodes ino new) i p block → Points (slice_set inodes ino new) j q block → (i ≡ j) × (p ≡ q)
 inode_apart free inodes ino old new long there kept takes i j p q block a b = elim (cases_eq i ino) [
   | inl first ↦ elim (cases_eq j ino) [
@@ -78,7 +79,7 @@ inode_apart free inodes ino old new long there kept takes i j p q block a b = el
       | inr is_free ↦ free_unpointed free inodes long kept number other block p is_free
     ]
 
-pub inode_kept : (free : List Bool) (inodes : List Inode) (ino : ℕ) (old new : Inode) → length free ≡ 2048 → slice_get inodes ino ≡ Some old → AreKept free inodes → TakesFreeBlocks free old new
+pub inode_kept : (free : List Bool) (inodes : List Inode) (ino : ℕ) (old new : Inode) → length free ≡ limits.blocks → slice_get inodes ino ≡ Some old → AreKept free inodes → TakesFreeBlocks free old new
     → AreKept (marked_all false (marked_all true free old.blocks) new.blocks) (slice_set inodes ino new)
 inode_kept free inodes ino old new long there kept takes = record {
   used = λ block below. (

@@ -1,5 +1,6 @@
 -- What a change of one slot, and a block more, do to the slots of directories.
 use Rattle.std.proofs.Common.{◌≡◌, ◌≢◌, ◌<◌, ◌≤◌, ◌+◌, ◌-◌, ◌*◌, ◌/◌, ◌++◌, ◌⊎◌, ℕ, zero, suc, List, [], ◌∷◌, length, take, drop, replicate, Option, Some, None, refl, sym, ap, ◌∙◌, subst, inl, inr, arith, get_or, length-append, length-drop}
+use Rattle.cal_base.specs.Limits as limits
 use Rattle.std.specs.Prelude.{slice_set}
 use Rattle.std.proofs.lemmas.Bool.{cases_eq, cases_lt}
 use Rattle.std.proofs.lemmas.List.{drop-append-le, drop-set-add, drop-set-lt, get_or-set_other, get_or-set_same, length-replicate, length-set, take-append-le, take-set-le}
@@ -64,7 +65,7 @@ pub length-grown : (slots : Slots) → length (slots ++ replicate 128 None) ≡ 
 length-grown slots = length-append slots (replicate 128 None) ∙ ap (λ (n : ℕ). length slots + n) (length-replicate {A = Option DirEntry} 128 None)
 
 -- a block comes
-pub directory_grown : (slots : Slots) → IsDirectory slots → length slots < 1024 → IsDirectory (slots ++ replicate 128 None)
+pub directory_grown : (slots : Slots) → IsDirectory slots → length slots < limits.directory_entries → IsDirectory (slots ++ replicate 128 None)
 directory_grown slots d fewer =
     let size = length-grown slots in
     let whole = d.whole in

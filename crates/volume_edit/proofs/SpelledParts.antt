@@ -1,5 +1,6 @@
 -- Each part of the edited volume is spelled, where the homes of the edit are written.
 use Rattle.std.proofs.Common.{◌≡◌, ◌≢◌, ◌<◌, ◌≤◌, ◌+◌, ◌*◌, ◌/◌, ◌++◌, ℕ, Bool, List, [], ◌∷◌, length, Option, Some, slice_get, slice_index, sym, ap, ◌∙◌, subst, arith}
+use Rattle.cal_base.specs.Limits as limits
 use Rattle.std.specs.Prelude.{◌||◌, is_some, option_map, if◌then◌else◌}
 use Rattle.std.proofs.lemmas.Option.{get_or_from_slice_get, slice_get-get_or, slice_get_within}
 use Rattle.directory.specs.Block.{SpellsBlock}
@@ -38,7 +39,7 @@ use Rattle.volume_edit.proofs.PartCases.{Apart, apart_growth, apart_inode, apart
 
 -- what is known of an edit whose homes are written
 pub record Given (x : List (List ℕ)) (v : Volume) (e : Edit) (homes : List (ℕ × List ℕ)) : Type 0 where
-  pub long : length x ≡ 2596
+  pub long : length x ≡ limits.sectors
   pub spells : SpellsVolume x v
   pub volume : IsVolume v
   pub kept : AreBlocksKept v
@@ -111,7 +112,7 @@ module _ (x : List (List ℕ)) (v : Volume) (e : Edit) (homes : List (ℕ × Lis
   ]
 
   -- the slots of clients
-  slot_spelled : (client : ℕ) → client < 16 → SpellsSlot (sector (written x homes) (20 + client)) (slot_at (edited v e).slots client)
+  slot_spelled : (client : ℕ) → client < limits.clients → SpellsSlot (sector (written x homes) (20 + client)) (slot_at (edited v e).slots client)
   slot_spelled client low = elim (slot_put e.slot client) [
     | slot_here s made same ↦ subst (λ (n : ℕ). SpellsSlot (sector (written x homes) (20 + n)) (slot_at (edited v e).slots n)) same
         (subst (λ (o : Option SlotEdit). Each (IsTold (edited v e) (written x homes)) (slot_parts o)) made slot_told).0
@@ -125,7 +126,7 @@ module _ (x : List (List ℕ)) (v : Volume) (e : Edit) (homes : List (ℕ × Lis
   ]
 
   -- the inodes
-  inode_spelled : (number : ℕ) → number < 512 → SpellsInode (sector (written x homes) (36 + number)) (inode_at (edited v e).inodes number)
+  inode_spelled : (number : ℕ) → number < limits.inodes → SpellsInode (sector (written x homes) (36 + number)) (inode_at (edited v e).inodes number)
   inode_spelled number low = elim (which e number) [
     | put i made same ↦ subst (λ (n : ℕ). SpellsInode (sector (written x homes) (36 + n)) (inode_at (edited v e).inodes n)) same
         (of_first (IsTold (edited v e) (written x homes)) v (inode_part i) (option_map growth_part e.growth)

@@ -1,5 +1,6 @@
 -- Where the homes of an edit are written the sectors spell the edited volume, and the bytes of files stay.
 use Rattle.std.proofs.Common.{◌≡◌, ◌≢◌, ◌+◌, ◌/◌, ◌%◌, ℕ, zero, suc, List, length, Some, slice_get, slice_index, refl, sym, ap, ◌∙◌, subst, arith}
+use Rattle.cal_base.specs.Limits as limits
 use Rattle.std.specs.Prelude.{◌==◌, if◌then◌else◌, option_map}
 use Rattle.std.proofs.lemmas.Option.{get_or_from_slice_get, slice_get-get_or}
 use Rattle.inode.specs.declared.inode.Inode.{Inode}
@@ -20,7 +21,7 @@ use Rattle.volume_edit.proofs.Grammar.{edited_volume}
 use Rattle.volume_edit.proofs.Live.{IsLive}
 use Rattle.volume_edit.proofs.SpelledParts.{Given, all_spelled, as_before, enters_live, inode_below, leaves_live, map_below, slot_below}
 
-pub edited_spelled : (sectors : List (List ℕ)) (v : Volume) (e : Edit) (homes : List (ℕ × List ℕ)) → length sectors ≡ 2596 → SpellsVolume sectors v → IsVolume v → AreBlocksKept v → IsEdit v e → TakesFree v e → AreHomes v e homes
+pub edited_spelled : (sectors : List (List ℕ)) (v : Volume) (e : Edit) (homes : List (ℕ × List ℕ)) → length sectors ≡ limits.sectors → SpellsVolume sectors v → IsVolume v → AreBlocksKept v → IsEdit v e → TakesFree v e → AreHomes v e homes
     → SpellsVolume (written sectors homes) (edited v e)
 edited_spelled sectors v e homes long spells volume blocks edit takes at =
     all_spelled sectors v e homes (record { long = long; spells = spells; volume = volume; kept = blocks; edit = edit; takes = takes; at = at })
@@ -44,7 +45,7 @@ file_apart x v e homes g number place block points other =
     (if_entering (Apart (edited v e) (547 + (block + 1))) e.entering (λ n made same.
     other_inode v e g.volume g.kept g.edit g.takes n.directory.0 (n.place / 128) number place block (enters_live x v e homes g n made) points other (omega arith)))
 
-pub same_file : (sectors : List (List ℕ)) (v : Volume) (e : Edit) (homes : List (ℕ × List ℕ)) → length sectors ≡ 2596 → SpellsVolume sectors v → IsVolume v → AreBlocksKept v → IsEdit v e → TakesFree v e → AreHomes v e homes
+pub same_file : (sectors : List (List ℕ)) (v : Volume) (e : Edit) (homes : List (ℕ × List ℕ)) → length sectors ≡ limits.sectors → SpellsVolume sectors v → IsVolume v → AreBlocksKept v → IsEdit v e → TakesFree v e → AreHomes v e homes
     → (number : ℕ) (inode : Inode) → slice_get v.inodes number ≡ Some inode → inode.kind ≡ File → (i : ℕ) → file_byte (written sectors homes) inode i ≡ file_byte sectors inode i
 same_file sectors v e homes long spells volume blocks edit takes at number inode there file i =
     let g : Given sectors v e homes = record { long = long; spells = spells; volume = volume; kept = blocks; edit = edit; takes = takes; at = at } in
@@ -80,7 +81,7 @@ file_apart_then x v e homes g number place block points other =
 kind_at : (inode other : Inode) → other ≡ inode → inode.kind ≢ Dir → other.kind ≢ Dir
 kind_at inode other same apart dir = apart (ap (λ (x : Inode). x.kind) (sym same) ∙ dir)
 
-pub same_file_after : (sectors : List (List ℕ)) (v : Volume) (e : Edit) (homes : List (ℕ × List ℕ)) → length sectors ≡ 2596 → SpellsVolume sectors v → IsVolume v → AreBlocksKept v → IsEdit v e → TakesFree v e → AreHomes v e homes
+pub same_file_after : (sectors : List (List ℕ)) (v : Volume) (e : Edit) (homes : List (ℕ × List ℕ)) → length sectors ≡ limits.sectors → SpellsVolume sectors v → IsVolume v → AreBlocksKept v → IsEdit v e → TakesFree v e → AreHomes v e homes
     → (number : ℕ) (inode : Inode) → slice_get (edited v e).inodes number ≡ Some inode → inode.kind ≢ Dir → (i : ℕ) → file_byte (written sectors homes) inode i ≡ file_byte sectors inode i
 same_file_after sectors v e homes long spells volume blocks edit takes at number inode there apart i =
     let g : Given sectors v e homes = record { long = long; spells = spells; volume = volume; kept = blocks; edit = edit; takes = takes; at = at } in

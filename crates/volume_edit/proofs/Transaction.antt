@@ -1,5 +1,6 @@
 -- The homes of an edit are a transaction.
 use Rattle.std.proofs.Common.{◌≡◌, ◌<◌, ◌≤◌, ◌+◌, ◌/◌, ◌++◌, ℕ, suc, true, false, List, [], ◌∷◌, length, Bool, Option, Some, None, refl, sym, ap, subst, inl, inr, arith, length-append}
+use Rattle.cal_base.specs.Limits as limits
 use Rattle.std.specs.Prelude.{IfSome, IsSome, ◌||◌, ◌&&◌, is_some, nat_eq, nat_le, nat_lt, option_map, if◌then◌else◌}
 use Rattle.std.proofs.lemmas.Bool.{and_from, le-leb, lt-ltb}
 use Rattle.shared_disk.specs.Homes.{IsTransaction, are_ascending, is_home, sectors_of}
@@ -17,7 +18,7 @@ use Rattle.volume_edit.proofs.Live.{IsLive, entering_live, leaving_live, pointer
 use Rattle.volume_edit.proofs.PartLists.{Rise, Within, in_order-few, in_order-some, rise-append, rise-in_order}
 
 -- where each part lies
-block_within : (v : Volume) → IsVolume v → (number index : ℕ) → IsLive v number index → Within v 548 2596 (BlockPart number index)
+block_within : (v : Volume) → IsVolume v → (number index : ℕ) → IsLive v number index → Within v 548 limits.sectors (BlockPart number index)
 block_within v h number index live = (let p = pointer_is v h number index live in let from = p.from_one in let few = p.few in record { from = omega arith; below = omega arith })
 
 pub map_rise : (v w : Volume) (e : Edit) → Rise w 19 20 (map_parts v e)
@@ -39,11 +40,11 @@ growth_within : (v w : Volume) (e : Edit) (o : Option Growth) → IfSome o (IsGr
 growth_within v w e None h = tt
 growth_within v w e (Some g) h = (let low = h.directory.to_511 in record { from = omega arith; below = omega arith })
 
-leaving_within : (v : Volume) (e : Edit) (o : Option Leaving) → IsVolume v → IsEdit v e → IfSome o (IsLeaving v e) → IfSome (option_map leaving_part o) (Within (edited v e) 548 2596)
+leaving_within : (v : Volume) (e : Edit) (o : Option Leaving) → IsVolume v → IsEdit v e → IfSome o (IsLeaving v e) → IfSome (option_map leaving_part o) (Within (edited v e) 548 limits.sectors)
 leaving_within v e None h is of = tt
 leaving_within v e (Some l) h is of = block_within (edited v e) (edited_volume v e h is) l.directory.0 (l.place / 128) (leaving_live v e l h is of)
 
-entering_within : (v : Volume) (e : Edit) (o : Option Entering) → IsVolume v → IsEdit v e → IfSome o (IsEntering v e) → IfSome (option_map entering_part o) (Within (edited v e) 548 2596)
+entering_within : (v : Volume) (e : Edit) (o : Option Entering) → IsVolume v → IsEdit v e → IfSome o (IsEntering v e) → IfSome (option_map entering_part o) (Within (edited v e) 548 limits.sectors)
 entering_within v e None h is of = tt
 entering_within v e (Some n) h is of = block_within (edited v e) (edited_volume v e h is) n.directory.0 (n.place / 128) (entering_live v e n h is of)
 
@@ -59,12 +60,12 @@ pub inode_rise : (v w : Volume) (e : Edit) → IsEdit v e → Rise w 36 548 (ino
 inode_rise v w e is = subst (Rise w 36 548) (sym (inodes_same v w e.inode e.growth))
     (rise-in_order w 36 548 (option_map inode_part e.inode) (option_map growth_part e.growth) (inode_within w e.inode is.inode) (growth_within v w e e.growth is.growth))
 
-pub block_rise : (v : Volume) (e : Edit) → IsVolume v → IsEdit v e → Rise (edited v e) 548 2596 (block_parts v e)
+pub block_rise : (v : Volume) (e : Edit) → IsVolume v → IsEdit v e → Rise (edited v e) 548 limits.sectors (block_parts v e)
 block_rise v e h is = rise-in_order (edited v e) 548 2596 (option_map leaving_part e.leaving) (option_map entering_part e.entering)
     (leaving_within v e e.leaving h is is.leaving) (entering_within v e e.entering h is is.entering)
 
 -- all parts rise
-pub parts_rise : (v : Volume) (e : Edit) → IsVolume v → IsEdit v e → Rise (edited v e) 19 2596 (parts v e)
+pub parts_rise : (v : Volume) (e : Edit) → IsVolume v → IsEdit v e → Rise (edited v e) 19 limits.sectors (parts v e)
 parts_rise v e h is =
     let w = edited v e in
     rise-append w (map_parts v e) _ 19 20 2596 (omega arith) (omega arith) (map_rise v w e)
@@ -72,14 +73,14 @@ parts_rise v e h is =
     (rise-append w (inode_parts v e) (block_parts v e) 36 548 2596 (omega arith) (omega arith) (inode_rise v w e is) (block_rise v e h is)))
 
 -- the homes' sectors ascend
-home_true : (sector : ℕ) → 19 ≤ sector → sector < 2596 → is_home sector ≡ true
+home_true : (sector : ℕ) → 19 ≤ sector → sector < limits.sectors → is_home sector ≡ true
 home_true sector from below = either (nat_eq sector 0) (nat_le 19 sector && nat_lt sector 2596) (and_from (nat_le 19 sector) (nat_lt sector 2596) (le-leb 19 sector from) (lt-ltb sector 2596 below))
   where
     either : (a b : Bool) → b ≡ true → (a || b) ≡ true
     either true b h = refl
     either false b h = h
 
-pub ascend : (v : Volume) (ps : List Part) (homes : List (ℕ × List ℕ)) (least from : ℕ) → Spell v ps homes → Rise v least 2596 ps → 19 ≤ least → from ≤ least → are_ascending from (sectors_of homes) ≡ true
+pub ascend : (v : Volume) (ps : List Part) (homes : List (ℕ × List ℕ)) (least from : ℕ) → Spell v ps homes → Rise v least limits.sectors ps → 19 ≤ least → from ≤ least → are_ascending from (sectors_of homes) ≡ true
 ascend v [] [] least from s r low under = refl
 ascend v [] (home ∷ homes) least from s r low under = absurd s
 ascend v (part ∷ ps) [] least from s r low under = absurd s

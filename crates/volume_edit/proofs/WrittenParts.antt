@@ -1,5 +1,6 @@
 -- The sectors where the homes of an edit are written.
 use Rattle.std.proofs.Common.{◌≡◌, ◌≢◌, ◌<◌, ◌≤◌, ◌+◌, ℕ, List, [], ◌∷◌, length, refl, sym, ap, ◌∙◌, subst, arith}
+use Rattle.cal_base.specs.Limits as limits
 use Rattle.std.specs.Prelude.{slice_set}
 use Rattle.std.proofs.lemmas.List.{length-set}
 use Rattle.journal.specs.Layout.{sector}
@@ -30,7 +31,7 @@ apart_above v (part ∷ ps) least end j r high = (let below = r.1.0 in (λ same.
 abbrev pub IsTold : Volume → List (List ℕ) → Part → Type 0
 IsTold v y part = SpellsPart v part (sector y (sector_of v part))
 
-pub told : (v : Volume) (ps : List Part) (homes : List (ℕ × List ℕ)) (x : List (List ℕ)) (least : ℕ) → Spell v ps homes → Rise v least 2596 ps → length x ≡ 2596 → Each (IsTold v (written x homes)) ps
+pub told : (v : Volume) (ps : List Part) (homes : List (ℕ × List ℕ)) (x : List (List ℕ)) (least : ℕ) → Spell v ps homes → Rise v least limits.sectors ps → length x ≡ limits.sectors → Each (IsTold v (written x homes)) ps
 told v [] [] x least s r long = tt
 told v [] (home ∷ homes) x least s r long = absurd s
 told v (part ∷ ps) [] x least s r long = absurd s
@@ -39,5 +40,5 @@ told v (part ∷ ps) (home ∷ homes) x least s r long =
     let below = r.1.0 in
     let x' = slice_set x home.0 home.1 in
     let here : sector x' (sector_of v part) ≡ home.1 = ap (sector x') (sym at) ∙ sector_same x home.0 home.1 (omega arith) in
-    let kept : sector (written x' homes) (sector_of v part) ≡ sector x' (sector_of v part) = unwritten v ps homes x' (sector_of v part) s.1 (apart_below v ps (sector_of v part + 1) 2596 (sector_of v part) r.1.1 (omega arith)) in
+    let kept : sector (written x' homes) (sector_of v part) ≡ sector x' (sector_of v part) = unwritten v ps homes x' (sector_of v part) s.1 (apart_below v ps (sector_of v part + 1) limits.sectors (sector_of v part) r.1.1 (omega arith)) in
     (subst (SpellsPart v part) (sym (kept ∙ here)) s.0.1, told v ps homes x' (sector_of v part + 1) s.1 r.1.1 (length-set x home.0 home.1 ∙ long))

@@ -1,5 +1,6 @@
 -- Which blocks an edit may take.
 use Rattle.std.specs.Prelude.{◌≡◌, ◌≢◌, ◌⊎◌, ◌+◌, ◌∷◌, [], ℕ, true, List, Some, IfSome, slice_get, slice_index, ⊤}
+use Rattle.shared_disk.specs.Map.{at_block}
 use Rattle.volume.specs.Volume.{Volume}
 use Rattle.volume_edit.specs.Edit.{inode_at}
 use Rattle.volume_edit.specs.declared.edit.Edit.{Edit}
@@ -24,7 +25,7 @@ pub record TakesFree (v : Volume) (e : Edit) : Type 0 where
 -- a sector is that of a free block
 pub record IsFreeSector (v : Volume) (at : ℕ) : Type 0 where
   pub block : ℕ
-  pub sector : at ≡ 548 + block
+  pub sector : at ≡ at_block block
   pub free : slice_get v.free block ≡ Some true
 
 -- each of these writes goes to a free block

@@ -1,5 +1,6 @@
 -- What one transaction alters of a volume, and the volume then.
 use Rattle.std.specs.Prelude.{◌≡◌, ◌⊎◌, ◌==◌, ◌≤◌, ◌<◌, ◌+◌, ◌*◌, ◌/◌, ◌++◌, ℕ, zero, suc, Bool, true, false, List, [], ◌∷◌, length, replicate, slice_get, slice_index_or, slice_set, Option, Some, None, IfSome, IsSome}
+use Rattle.cal_base.specs.Limits as limits
 use Rattle.directory.specs.Block.{IsEntry, entry_at}
 use Rattle.directory.specs.Directory.{IsDirectory}
 use Rattle.directory.specs.declared.entry.DirEntry.{DirEntry}
@@ -19,7 +20,7 @@ use Rattle.volume_edit.specs.declared.edit.Leaving.{Leaving}
 use Rattle.volume_edit.specs.declared.edit.SlotEdit.{SlotEdit}
 
 abbrev pub free_inode : Inode
-free_inode = record { kind = Free; named = false; size = 0; blocks = replicate 64 0 }
+free_inode = record { kind = Free; named = false; size = 0; blocks = replicate limits.file_blocks 0 }
 
 abbrev pub first_slot : Slot
 first_slot = record { purged = false; call = 0; flush = 0; reply = Done }
@@ -51,7 +52,7 @@ free_with_growth free None = free
 
 -- a directory's inode with one block more, behind its others
 abbrev pub grown_inode : Inode → ℕ → Inode
-grown_inode inode block = record { kind = inode.kind; named = inode.named; size = inode.size + 4096; blocks = slice_set inode.blocks (inode.size / 4096) (block + 1) }
+grown_inode inode block = record { kind = inode.kind; named = inode.named; size = inode.size + limits.block_size; blocks = slice_set inode.blocks (inode.size / limits.block_size) (block + 1) }
 
 abbrev pub with_inode : List Inode → Option InodeEdit → List Inode
 with_inode inodes (Some e) = slice_set inodes e.ino.0 e.inode
@@ -72,7 +73,7 @@ with_slots directories number change = slice_set directories number (change (sli
 -- the slots of directories: one with a block more; one without the entry that goes; one with the entry that
 -- comes; and without those of a directory that goes
 abbrev pub with_grown : List Slots → Option Growth → List Slots
-with_grown directories (Some g) = with_slots directories g.directory.0 (λ slots. slots ++ replicate 128 None)
+with_grown directories (Some g) = with_slots directories g.directory.0 (λ slots. slots ++ replicate limits.slots_per_block None)
 with_grown directories None = directories
 
 abbrev pub with_left : List Slots → Option Leaving → List Slots
@@ -109,7 +110,7 @@ edited v e = record {
 -- what an inode of each kind has of slots: a directory those of its blocks, and no other any
 pub record IsSized (inode : Inode) (slots : Slots) : Type 0 where
   pub directory : IsDirectory slots
-  pub count : 4096 * length slots ≡ 128 * inode.size
+  pub count : limits.block_size * length slots ≡ limits.slots_per_block * inode.size
 
 abbrev pub HasSlots : Kind → Inode → Slots → Type 0
 HasSlots Free inode slots = slots ≡ []
@@ -119,30 +120,30 @@ HasSlots Dir inode slots = IsSized inode slots
 -- a volume within its grammar
 pub record IsVolume (v : Volume) : Type 0 where
   pub some : 1 ≤ v.clients
-  pub few : v.clients ≤ 16
-  pub map : length v.free ≡ 2048
-  pub slot_count : length v.slots ≡ 16
+  pub few : v.clients ≤ limits.clients
+  pub map : length v.free ≡ limits.blocks
+  pub slot_count : length v.slots ≡ limits.clients
   pub slots : (client : ℕ) (slot : Slot) → slice_get v.slots client ≡ Some slot → IsSlot slot
-  pub inode_count : length v.inodes ≡ 512
+  pub inode_count : length v.inodes ≡ limits.inodes
   pub inodes : (number : ℕ) (inode : Inode) → slice_get v.inodes number ≡ Some inode → IsInode inode
-  pub directory_count : length v.directories ≡ 512
+  pub directory_count : length v.directories ≡ limits.inodes
   pub directories : (number : ℕ) (inode : Inode) → slice_get v.inodes number ≡ Some inode → HasSlots inode.kind inode (slots_of v number)
   pub root : (inode_at v.inodes 0).kind ≡ Dir
 
 pub record IsSlotEdit (e : SlotEdit) : Type 0 where
-  pub client : e.client.0 < 16
+  pub client : e.client.0 < limits.clients
   pub slot : IsSlot e.slot
 
 -- an inode other than the root, and without entries
 pub record IsInodeEdit (e : InodeEdit) : Type 0 where
   pub from_one : 1 ≤ e.ino.0
-  pub to_511 : e.ino.0 ≤ 511
+  pub to_511 : e.ino.0 < limits.inodes
   pub inode : IsInode e.inode
   pub empty : HasSlots e.inode.kind e.inode []
 
 -- a directory that stays one
 pub record IsStaying (v : Volume) (e : Edit) (directory : ℕ) : Type 0 where
-  pub to_511 : directory ≤ 511
+  pub to_511 : directory < limits.inodes
   pub kind : (inode_at v.inodes directory).kind ≡ Dir
   pub stays : is_edited e.inode directory ≡ false
 
@@ -158,8 +159,8 @@ IsFilled v g None = ⊥
 -- a block comes with an entry in it
 pub record IsGrowth (v : Volume) (e : Edit) (g : Growth) : Type 0 where
   pub directory : IsStaying v e g.directory.0
-  pub fewer : length (slots_of v g.directory.0) < 1024
-  pub block : g.block < 2048
+  pub fewer : length (slots_of v g.directory.0) < limits.directory_entries
+  pub block : g.block < limits.blocks
   pub filled : IsFilled v g e.entering
 
 pub record IsLeaving (v : Volume) (e : Edit) (l : Leaving) : Type 0 where

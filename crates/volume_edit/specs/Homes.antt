@@ -1,5 +1,7 @@
 -- The homes of a transaction: the parts of the volume that an edit alters, spelled as they are then.
-use Rattle.std.specs.Prelude.{◌≡◌, ◌==◌, ◌+◌, ◌/◌, ◌||◌, ◌++◌, ℕ, Bool, false, not, List, [], ◌∷◌, slice_index, Option, Some, None, is_some, nat_eq, nat_lt, option_map, if◌then◌else◌, ⊤}
+use Rattle.std.specs.Prelude.{◌≡◌, ◌==◌, ◌/◌, ◌||◌, ◌++◌, ℕ, Bool, false, not, List, [], ◌∷◌, slice_index, Option, Some, None, is_some, nat_eq, nat_lt, option_map, if◌then◌else◌, ⊤}
+use Rattle.cal_base.specs.Limits as limits
+use Rattle.shared_disk.specs.Map.{at_map, at_slot, at_inode, at_pointer}
 use Rattle.std.specs.Cmp.Lexicographic.{pointwise}
 use Rattle.directory.specs.Block.{SpellsBlock}
 use Rattle.directory.specs.Directory.{block_slots}
@@ -25,10 +27,10 @@ pub data Part : Type 0 where
 
 -- the sector in which a part stands
 abbrev pub sector_of : Volume → Part → ℕ
-sector_of v MapPart = 19
-sector_of v (SlotPart client) = 20 + client
-sector_of v (InodePart number) = 36 + number
-sector_of v (BlockPart number index) = 547 + slice_index (inode_at v.inodes number).blocks index
+sector_of v MapPart = at_map
+sector_of v (SlotPart client) = at_slot client
+sector_of v (InodePart number) = at_inode number
+sector_of v (BlockPart number index) = at_pointer (slice_index (inode_at v.inodes number).blocks index)
 
 -- bytes spell a part
 abbrev pub SpellsPart : Volume → Part → List ℕ → Type 0
@@ -66,10 +68,10 @@ abbrev pub growth_part : Growth → Part
 growth_part g = InodePart g.directory.0
 
 abbrev pub leaving_part : Leaving → Part
-leaving_part l = BlockPart l.directory.0 (l.place / 128)
+leaving_part l = BlockPart l.directory.0 (l.place / limits.slots_per_block)
 
 abbrev pub entering_part : Entering → Part
-entering_part n = BlockPart n.directory.0 (n.place / 128)
+entering_part n = BlockPart n.directory.0 (n.place / limits.slots_per_block)
 
 abbrev pub inode_parts : Volume → Edit → List Part
 inode_parts v e = in_order v (option_map inode_part e.inode) (option_map growth_part e.growth)

@@ -1,4 +1,5 @@
 ghost use Rattle.std.specs.Prelude.{◌≡◌, ◌≢◌, ℕ, List, length, Some, slice_get};
+ghost use Rattle.cal_base.specs.Limits as limits;
 ghost use Rattle.inode.specs.declared.inode.Inode.{Inode};
 ghost use Rattle.inode.specs.declared.inode.Kind.TheVariants.{Dir, File};
 ghost use Rattle.shared_disk.specs.Homes.{IsTransaction};
@@ -25,15 +26,15 @@ pub fn homes_are_a_transaction()
 /// Where sectors spell a volume and the homes of an edit are written, they spell the edited volume. The
 /// homes are all that has to be written: each part that no home stands for is as before.
 pub fn an_edit_is_spelled()
-    ensures { (sectors : List (List ℕ)) (v : Volume) (e : Edit) (homes : List (ℕ × List ℕ)) → length sectors ≡ 2596 → SpellsVolume sectors v → IsVolume v → AreBlocksKept v → IsEdit v e → TakesFree v e → AreHomes v e homes → SpellsVolume (written sectors homes) (edited v e) }
+    ensures { (sectors : List (List ℕ)) (v : Volume) (e : Edit) (homes : List (ℕ × List ℕ)) → length sectors ≡ limits.sectors → SpellsVolume sectors v → IsVolume v → AreBlocksKept v → IsEdit v e → TakesFree v e → AreHomes v e homes → SpellsVolume (written sectors homes) (edited v e) }
 {}
 
 /// The homes of an edit hold no byte of a file: where they are written, each file has the bytes that it
 /// had, also one that the edit frees. Nor do they hold a byte of a file as it is after the edit: its bytes
 /// are those that the sectors had at its pointers before the homes were written.
 pub fn an_edit_keeps_files()
-    ensures before { (sectors : List (List ℕ)) (v : Volume) (e : Edit) (homes : List (ℕ × List ℕ)) → length sectors ≡ 2596 → SpellsVolume sectors v → IsVolume v → AreBlocksKept v → IsEdit v e → TakesFree v e → AreHomes v e homes → (number : ℕ) (inode : Inode) → slice_get v.inodes number ≡ Some inode → inode.kind ≡ File → (i : ℕ) → file_byte (written sectors homes) inode i ≡ file_byte sectors inode i }
-    ensures after { (sectors : List (List ℕ)) (v : Volume) (e : Edit) (homes : List (ℕ × List ℕ)) → length sectors ≡ 2596 → SpellsVolume sectors v → IsVolume v → AreBlocksKept v → IsEdit v e → TakesFree v e → AreHomes v e homes → (number : ℕ) (inode : Inode) → slice_get (edited v e).inodes number ≡ Some inode → inode.kind ≢ Dir → (i : ℕ) → file_byte (written sectors homes) inode i ≡ file_byte sectors inode i }
+    ensures before { (sectors : List (List ℕ)) (v : Volume) (e : Edit) (homes : List (ℕ × List ℕ)) → length sectors ≡ limits.sectors → SpellsVolume sectors v → IsVolume v → AreBlocksKept v → IsEdit v e → TakesFree v e → AreHomes v e homes → (number : ℕ) (inode : Inode) → slice_get v.inodes number ≡ Some inode → inode.kind ≡ File → (i : ℕ) → file_byte (written sectors homes) inode i ≡ file_byte sectors inode i }
+    ensures after { (sectors : List (List ℕ)) (v : Volume) (e : Edit) (homes : List (ℕ × List ℕ)) → length sectors ≡ limits.sectors → SpellsVolume sectors v → IsVolume v → AreBlocksKept v → IsEdit v e → TakesFree v e → AreHomes v e homes → (number : ℕ) (inode : Inode) → slice_get (edited v e).inodes number ≡ Some inode → inode.kind ≢ Dir → (i : ℕ) → file_byte (written sectors homes) inode i ≡ file_byte sectors inode i }
 {}
 
 /// Sectors spell one volume within its grammar, the slots of each inode included: all of a server's image

@@ -1,5 +1,6 @@
 -- Two trees of one shape: where a path is resolved in one, it is in the other, with the same refusals.
 use Rattle.std.proofs.Common.{◌≡◌, ◌<◌, ◌==◌, ◌&&◌, ◌++◌, ℕ, Bool, true, false, not, List, [], ◌∷◌, Option, Some, None, Result, Ok, Err, refl, sym, ap, subst, ◌∙◌, if◌then◌else◌}
+use Rattle.cal_base.specs.Limits as limits
 use Rattle.std.specs.FinMap as map
 use Rattle.std.specs.Prelude.{nat_eq, nat_le, is_some, ⊤}
 use Rattle.std.specs.Cmp.Lexicographic.{pointwise}
@@ -32,13 +33,13 @@ AreAlike None None = ⊤
 
 -- two trees have nodes of one shape at a number
 pub record Meet (a b : Tree) (ino : Ino) : Type 0 where
-  pub within : ino.0 < 512
+  pub within : ino.0 < limits.inodes
   pub alike : AreAlike (node_at a ino) (node_at b ino)
 
 -- they do at the root, and at each number that a name of a directory of the second stands for
 pub record AreSimilar (a b : Tree) : Type 0 where
   pub at_root : Meet a b root
-  pub below : (at : Ino) (name : List ℕ) (ino : Ino) → at.0 < 512 → looked_up (node_at b at) name ≡ Ok ino → Meet a b ino
+  pub below : (at : Ino) (name : List ℕ) (ino : Ino) → at.0 < limits.inodes → looked_up (node_at b at) name ≡ Ok ino → Meet a b ino
 
 -- ---- what is asked of two nodes of one shape is answered alike
 

@@ -9,7 +9,7 @@ use Rattle.tree_law.specs.declared.call.Call.TheVariants.{Create, Mkdir, Unlink,
 use Rattle.tree_law.specs.declared.reply.Why.TheVariants.{NoEnt}
 use Rattle.volume.specs.Volume.{Volume}
 use Rattle.volume_edit.specs.Edit.{IsEdit, IsVolume}
-use Rattle.volume_plan.specs.Leads.{HasPaths}
+use Rattle.tree_law.specs.Change.{HasPaths}
 use Rattle.volume_plan.specs.Plans.{plan}
 use Rattle.volume_plan.specs.Shown.{shown}
 use Rattle.volume_plan.proofs.PlanEdits.{InRange, make_edit, standing_edit}

@@ -21,7 +21,8 @@ use Rattle.tree_law.specs.declared.rename.Move.{Move}
 use Rattle.tree_law.specs.declared.reply.Reply.{Reply}
 use Rattle.tree_law.specs.declared.reply.Reply.TheVariants.{Done, Fd, Bytes, Count, File, Dir, Names as Listed, Refused}
 use Rattle.tree_law.specs.declared.reply.Why.{Why}
-use Rattle.volume.specs.Numbers.{Change, is_change, last_change}
+use Rattle.tree_law.specs.Change.{is_change}
+use Rattle.volume.specs.Numbers.{Change, last_change}
 use Rattle.volume.specs.Stands.{StandsForClient}
 use Rattle.volume.specs.Volume.{Volume}
 use Rattle.volume_edit.specs.Edit.{first_slot, slot_at}

@@ -1,5 +1,6 @@
 -- The plans of `create` and `mkdir` fit.
 use Rattle.std.proofs.Common.{◌≡◌, ◌≢◌, ◌<◌, ◌-◌, ℕ, Bool, true, false, nat_lt, List, [], ◌∷◌, length, Option, Some, None, Result, Ok, Err, is_some, inl, inr, refl, sym, ap, subst, ◌∙◌, arith, if◌then◌else◌}
+use Rattle.cal_base.specs.Limits as limits
 use Rattle.std.specs.Prelude.{nat_le}
 use Rattle.std.specs.FinMap as map
 use Rattle.std.proofs.lemmas.Bool.{cases_lt, le-leb}
@@ -50,14 +51,14 @@ pub record IsNewPlace (tree : Tree) (place : Ino) (name : List ℕ) : Type 0 whe
   pub names : Names
   pub here : node_at tree place ≡ Some (Directory names)
   pub absent : map.get names name ≡ None
-  pub few : map.len names < 1024
+  pub few : map.len names < limits.directory_entries
 
 record HasRoom (names : Names) (ino place : Ino) (name : List ℕ) : Type 0 where
   same : ino ≡ place
   absent : map.get names name ≡ None
-  few : map.len names < 1024
+  few : map.len names < limits.directory_entries
 
-less_than : (n : ℕ) → nat_le 1024 n ≡ false → n < 1024
+less_than : (n : ℕ) → nat_le 1024 n ≡ false → n < limits.directory_entries
 less_than n e = elim (cases_lt n 1024) [
   | inl below ↦ below
   | inr above ↦ (let least = le-leb 1024 n above in absurd (cc))
@@ -113,7 +114,7 @@ pub least_is_free : (sectors : List (List ℕ)) (v : Volume) (tree : Tree) (numb
 least_is_free sectors v tree number is stand least =
     let at = position_passes (λ (inode : Inode). is_free inode.kind) v.inodes number least free_inode in
     let kind : (inode_at v.inodes number).kind ≡ Free = free_kind (inode_at v.inodes number).kind (at.passes free_inode) in
-    let within : number < 512 = (let w = at.within in let c = is.inode_count in omega arith) in
+    let within : number < limits.inodes = (let w = at.within in let c = is.inode_count in omega arith) in
     let some : number ≢ 0 = λ same. (let r = is.root in let e = ap (λ (n : ℕ). (inode_at v.inodes n).kind) same in absurd (cc)) in
     record {
       kind = kind;
@@ -138,7 +139,7 @@ module _ (sectors : List (List ℕ)) (v : Volume) (history : List Entry) (client
       let within = ((same_new_place sectors v tree is stand path).meet place at).within in
       let directory = directory_there sectors v tree is stand place p.names within p.here in
       let free = least_is_free sectors v tree n is stand least in
-      let few : entry_count (slots_of v place.0) < 1024 = (let count = sym (names_of-len (slots_of v place.0) directory.sized.directory.distinct) ∙ ap map.len directory.same in let less = p.few in omega arith) in
+      let few : entry_count (slots_of v place.0) < limits.directory_entries = (let count = sym (names_of-len (slots_of v place.0) directory.sized.directory.distinct) ∙ ap map.len directory.same in let less = p.few in omega arith) in
       record {
         count = (one_named history m.legal).count;
         within = within;
@@ -148,7 +149,7 @@ module _ (sectors : List (List ℕ)) (v : Volume) (history : List Entry) (client
         absent = p.absent;
         is_name = last_is_name tree path place at is_path;
         from_one = free.free.from_one;
-        to_511 = free.free.to_511;
+        to_511 = (let few = free.free.to_511 in omega arith);
         nothing = free.free.free;
         free = free.kind;
         some = some;

@@ -1,5 +1,6 @@
 -- The parts of a plan's edit keep a volume within its grammar.
 use Rattle.std.proofs.Common.{◌≡◌, ◌≢◌, ◌==◌, ◌≤◌, ◌<◌, ◌^◌, ℕ, zero, suc, true, false, List, [], ◌∷◌, length, replicate, Some, slice_get, get_or, refl, ap, inl, inr, arith}
+use Rattle.cal_base.specs.Limits as limits
 use Rattle.std.proofs.lemmas.Bool.{cases_lt}
 use Rattle.std.proofs.lemmas.Bool.Decides.{nat_tests}
 use Rattle.std.proofs.lemmas.List.{length-replicate}
@@ -28,11 +29,11 @@ get_past [] i d past = refl
 get_past (x ∷ xs) zero d past = absurd (omega arith)
 get_past (x ∷ xs) (suc i) d past = get_past xs i d (omega arith)
 
-pub slot_is : (v : Volume) (client : ℕ) → IsVolume v → client < 16 → IsSlot (slot_at v.slots client)
+pub slot_is : (v : Volume) (client : ℕ) → IsVolume v → client < limits.clients → IsSlot (slot_at v.slots client)
 slot_is v client is known = let count = is.slot_count in is.slots client (slot_at v.slots client) (get_there v.slots client first_slot (omega arith))
 
 -- the slot of a client with the number and the reply of a change
-pub answered_is : (v : Volume) (client : ClientId) (number : ℕ) (reply : Reply) → IsVolume v → client.0 < 16 → 1 ≤ number → number < 2 ^ 64 → IsChangeReply reply → IsSlotEdit (answered v client number reply)
+pub answered_is : (v : Volume) (client : ClientId) (number : ℕ) (reply : Reply) → IsVolume v → client.0 < limits.clients → 1 ≤ number → number < 2 ^ 64 → IsChangeReply reply → IsSlotEdit (answered v client number reply)
 answered_is v client number reply is known some fits change = record {
   client = known;
   slot = record {
@@ -46,7 +47,7 @@ pub slot_alone_is : (v : Volume) (e : SlotEdit) → IsSlotEdit e → IsEdit v (s
 slot_alone_is v e is = record { some = inl refl; slot = is; inode = tt; growth = tt; leaving = tt; entering = tt }
 
 -- a directory is one of the 512 inodes
-pub directory_within : (v : Volume) (number : ℕ) → IsVolume v → (inode_at v.inodes number).kind ≡ Dir → number ≤ 511
+pub directory_within : (v : Volume) (number : ℕ) → IsVolume v → (inode_at v.inodes number).kind ≡ Dir → number < limits.inodes
 directory_within v number is kind =
     elim (cases_lt number 512) [
       | inl below ↦ omega arith
@@ -65,7 +66,7 @@ is_free_kind Dir e = absurd (cc)
 -- the least free inode is one of 1 to 511, and free
 pub record IsNew (v : Volume) (number : ℕ) : Type 0 where
   pub from_one : 1 ≤ number
-  pub to_511 : number ≤ 511
+  pub to_511 : number < limits.inodes
   pub kind : (inode_at v.inodes number).kind ≡ Free
 
 pub least_is : (v : Volume) (number : ℕ) → IsVolume v → least_inode v ≡ Some number → IsNew v number
@@ -118,7 +119,7 @@ pub no_slots : IsDirectory []
 no_slots = record { whole = refl; few = omega arith; entries = λ place e h. absurd (cc); distinct = λ i j a b ha hb same. absurd (cc) }
 
 pub new_file_edit : (v : Volume) (number : ℕ) → IsNew v number → IsInodeEdit (record { ino = record { 0 = number }; inode = new_inode File })
-new_file_edit v number new = record { from_one = new.from_one; to_511 = new.to_511; inode = new_file_is; empty = refl }
+new_file_edit v number new = record { from_one = new.from_one; to_511 = (let few = new.to_511 in omega arith); inode = new_file_is; empty = refl }
 
 pub new_directory_edit : (v : Volume) (number : ℕ) → IsNew v number → IsInodeEdit (record { ino = record { 0 = number }; inode = new_inode Dir })
-new_directory_edit v number new = record { from_one = new.from_one; to_511 = new.to_511; inode = new_directory_is; empty = record { directory = no_slots; count = refl } }
+new_directory_edit v number new = record { from_one = new.from_one; to_511 = (let few = new.to_511 in omega arith); inode = new_directory_is; empty = record { directory = no_slots; count = refl } }

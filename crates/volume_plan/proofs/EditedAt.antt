@@ -1,5 +1,6 @@
 -- The inode and the slots at each number of an edited volume, and what stands there as before.
 use Rattle.std.proofs.Common.{◌≡◌, ◌<◌, ◌==◌, ◌++◌, ℕ, Bool, false, List, [], length, get_or, replicate, Option, Some, None, refl, sym, ap, subst, ◌∙◌, arith}
+use Rattle.cal_base.specs.Limits as limits
 use Rattle.std.proofs.lemmas.Bool.{eqb-false}
 use Rattle.std.proofs.lemmas.List.{get_or-set_other}
 use Rattle.std.proofs.lemmas.Option.{get_or_from_slice_get, slice_get_within}
@@ -99,7 +100,7 @@ pub slots_kept : (v : Volume) (e : Edit) (number : ℕ) → IsKept e number → 
 slots_kept v e number k = slots_edited-none v e number k.edited k.entered ∙ slots_left-none v e number k.left ∙ slots_grown-none v e number k.grown
 
 -- what stands there stands on, if the tree has the same node, and as much of a name for it
-pub kept_stands : (sectors others : List (List ℕ)) (v : Volume) (e : Edit) (tree later : Tree) (ino : Ino) → IsVolume v → KeepsFiles v sectors others → StandForNodes sectors v tree → ino.0 < 512 → IsKept e ino.0
+pub kept_stands : (sectors others : List (List ℕ)) (v : Volume) (e : Edit) (tree later : Tree) (ino : Ino) → IsVolume v → KeepsFiles v sectors others → StandForNodes sectors v tree → ino.0 < limits.inodes → IsKept e ino.0
     → node_at later ino ≡ node_at tree ino → is_named later ino.0 ≡ is_named tree ino.0 → StandsForNode others (edited v e) later ino.0 (inode_at (edited v e).inodes ino.0) (node_at later ino)
 kept_stands sectors others v e tree later ino is keeps stand within k node named =
     subst (λ (inode : Inode). StandsForNode others (edited v e) later ino.0 inode (node_at later ino)) (sym (inode_kept v e ino.0 k.edited k.grown))
@@ -109,12 +110,12 @@ kept_stands sectors others v e tree later ino is keeps stand within k node named
     (node_there sectors v tree is stand ino within)))
 
 -- all inodes stand for a tree if that at each number below 512 does
-pub stand_each : (sectors : List (List ℕ)) (w : Volume) (tree : Tree) → length w.inodes ≡ 512 → ((ino : Ino) → ino.0 < 512 → StandsForNode sectors w tree ino.0 (inode_at w.inodes ino.0) (node_at tree ino)) → StandForNodes sectors w tree
+pub stand_each : (sectors : List (List ℕ)) (w : Volume) (tree : Tree) → length w.inodes ≡ limits.inodes → ((ino : Ino) → ino.0 < limits.inodes → StandsForNode sectors w tree ino.0 (inode_at w.inodes ino.0) (node_at tree ino)) → StandForNodes sectors w tree
 stand_each sectors w tree count each = record {
   node = λ number inode there.
       (let inside = slice_get_within w.inodes number inode there in
       subst (λ (i : Inode). StandsForNode sectors w tree number i (node_at tree (record { 0 = number }))) (get_or_from_slice_get w.inodes number inode free_inode there) (each (record { 0 = number }) (omega arith)));
 }
 
-pub length-edited : (v : Volume) (e : Edit) → IsVolume v → length (edited v e).inodes ≡ 512
+pub length-edited : (v : Volume) (e : Edit) → IsVolume v → length (edited v e).inodes ≡ limits.inodes
 length-edited v e is = length-inodes v e ∙ is.inode_count

@@ -1,5 +1,6 @@
 -- Where an entry goes: the first empty slot of a directory, or the first of a new block.
 use Rattle.std.proofs.Common.{◌≡◌, ◌≤◌, ◌<◌, ◌++◌, ℕ, zero, suc, true, false, [], ◌∷◌, length, replicate, slice_set, Some, None, refl, inl, inr, arith}
+use Rattle.cal_base.specs.Limits as limits
 use Rattle.std.proofs.lemmas.Bool.{cases_lt}
 use Rattle.std.proofs.lemmas.Bool.Decides.{nat_tests}
 use Rattle.std.proofs.lemmas.List.{length-set}
@@ -31,7 +32,7 @@ empty_first (Some e ∷ slots) zero none = absurd (cc)
 empty_first (Some e ∷ slots) (suc place) none = let rest = empty_first slots place none in omega arith
 
 -- where a directory doesn't grow, and isn't full, a slot is empty
-pub room_within : (slots : Slots) → length slots ≤ 1024 → entry_count slots < 1024 → grows slots ≡ false → first_empty slots < length slots
+pub room_within : (slots : Slots) → length slots ≤ 1024 → entry_count slots < limits.directory_entries → grows slots ≡ false → first_empty slots < length slots
 room_within slots few room same =
     elim (cases_lt (first_empty slots) (length slots)) [
       | inl below ↦ below
@@ -46,7 +47,7 @@ room_within slots few room same =
 -- where a directory grows no slot is empty, and there are fewer than 1,024
 pub record Grown (slots : Slots) : Type 0 where
   pub none : first_empty slots ≡ length slots
-  pub fewer : length slots < 1024
+  pub fewer : length slots < limits.directory_entries
 
 pub grows_is : (slots : Slots) → grows slots ≡ true → Grown slots
 grows_is slots grown = record { none = grind (arith, nat_tests); fewer = grind (arith, nat_tests) }

@@ -1,5 +1,6 @@
 -- A flush of a client: its file's bytes last, and the client's slot counts the flush.
 use Rattle.std.proofs.Common.{◌≡◌, ◌≢◌, ◌<◌, ◌≤◌, ◌+◌, ◌^◌, ℕ, Bool, true, List, ◌∷◌, length, slice_get, Option, Some, None, inl, inr, refl, sym, ap, subst, ◌∙◌, arith, if◌then◌else◌, get_or}
+use Rattle.cal_base.specs.Limits as limits
 use Rattle.std.specs.List.{slice_set}
 use Rattle.std.proofs.lemmas.Bool.{cases_eq, cases_lt, eq-eqb, ne_eqb}
 use Rattle.std.proofs.lemmas.List.{get_or-set_other, get_or-set_same, get_or_past}
@@ -63,13 +64,13 @@ flush_slot v client flush = record { purged = (slot_at v.slots client.0).purged;
 abbrev pub slot_edit_of : Volume → ClientId → Flush → SlotEdit
 slot_edit_of v client flush = record { client = client; slot = flush_slot v client flush }
 
-pub slot_edits : (v : Volume) (client : ClientId) (flush : Flush) → IsVolume v → client.0 < 16 → flush.number < 2 ^ 64 → IsSlotEdit (slot_edit_of v client flush)
+pub slot_edits : (v : Volume) (client : ClientId) (flush : Flush) → IsVolume v → client.0 < limits.clients → flush.number < 2 ^ 64 → IsSlotEdit (slot_edit_of v client flush)
 slot_edits v client flush is below fits =
     let old : IsSlot (slot_at v.slots client.0) = is.slots client.0 (slot_at v.slots client.0) (slot_there v.slots client.0 (let l = is.slot_count in omega arith)) in
     record { client = below; slot = record { call = old.call; flush = fits; reply = old.reply } }
 
 -- a flush that its volume can take is an edit, whatever the sectors are
-pub flush_edits_by : (sectors : List (List ℕ)) (v : Volume) (client : ClientId) (flush : Flush) → CanFlush sectors v flush → client.0 < 16 → flush.number < 2 ^ 64 → IsEdit v (flush_of v client flush)
+pub flush_edits_by : (sectors : List (List ℕ)) (v : Volume) (client : ClientId) (flush : Flush) → CanFlush sectors v flush → client.0 < limits.clients → flush.number < 2 ^ 64 → IsEdit v (flush_of v client flush)
 flush_edits_by sectors v client flush can known fits = record {
   some = inl refl;
   slot = slot_edits v client flush can.volume known fits;

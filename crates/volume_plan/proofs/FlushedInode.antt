@@ -1,5 +1,6 @@
 -- The inode of a file after a flush: an inode, that takes free blocks alone.
 use Rattle.std.proofs.Common.{◌≡◌, ◌⊎◌, ◌≤◌, ◌<◌, ◌+◌, ◌-◌, ◌++◌, ℕ, zero, suc, true, List, [], ◌∷◌, length, take, replicate, Option, Some, None, slice_get, slice_index, refl, sym, ap, ◌∙◌, subst, inl, inr, arith, get_or, length-append}
+use Rattle.cal_base.specs.Limits as limits
 use Rattle.std.proofs.lemmas.Bool.{cases_lt}
 use Rattle.std.proofs.lemmas.List.{length-replicate, length-take}
 use Rattle.std.proofs.lemmas.Option.{slice_get_within}
@@ -46,7 +47,7 @@ length-cut_pointers count pointers =
 
 -- a flush of a file, for which there are blocks enough
 pub record CanFlush (sectors : List (List ℕ)) (v : Volume) (flush : Flush) : Type 0 where
-  pub count : length sectors ≡ 2596
+  pub count : length sectors ≡ limits.sectors
   pub volume : IsVolume v
   pub is : IsFlush flush
   pub file : (inode_at v.inodes flush.ino.0).kind ≡ File

@@ -1,5 +1,6 @@
 -- What becomes of an inode that loses its last name.
 use Rattle.std.proofs.Common.{◌≡◌, ◌≢◌, ◌≤◌, ◌<◌, ◌+◌, ◌&&◌, ◌||◌, ℕ, zero, suc, Bool, true, false, not, List, [], ◌∷◌, replicate, get_or, slice_get, slice_index, Option, Some, None, inl, inr, is_none, refl, sym, ap, subst, ◌∙◌, arith, if◌then◌else◌}
+use Rattle.cal_base.specs.Limits as limits
 use Rattle.std.proofs.lemmas.Bool.{cases_lt, ne_eqb}
 use Rattle.std.specs.List.{list_any}
 use Rattle.cal_base.specs.declared.identity.ClientId.{ClientId}
@@ -48,7 +49,7 @@ nameless_slots File inode false kind = refl
 nameless_slots Dir inode opened kind = refl
 nameless_slots Free inode opened kind = refl
 
-pub gone_edit : (v : Volume) (opened : List Ino) (ino : Ino) → 1 ≤ ino.0 → ino.0 ≤ 511 → IsInode (inode_at v.inodes ino.0) → IsInodeEdit (inode_gone v opened ino)
+pub gone_edit : (v : Volume) (opened : List Ino) (ino : Ino) → 1 ≤ ino.0 → ino.0 < limits.inodes → IsInode (inode_at v.inodes ino.0) → IsInodeEdit (inode_gone v opened ino)
 gone_edit v opened ino from to is = record {
   from_one = from;
   to_511 = to;
@@ -72,7 +73,7 @@ nameless_points File inode false place block is = absurd (free_points place bloc
 nameless_points Dir inode opened place block is = absurd (free_points place block is)
 nameless_points Free inode opened place block is = absurd (free_points place block is)
 
-pub gone_points : (v : Volume) (opened : List Ino) (ino : Ino) → IsVolume v → AreBlocksKept v → ino.0 < 512 → IsPointing v (inode_gone v opened ino)
+pub gone_points : (v : Volume) (opened : List Ino) (ino : Ino) → IsVolume v → AreBlocksKept v → ino.0 < limits.inodes → IsPointing v (inode_gone v opened ino)
 gone_points v opened ino is kept within =
     let old : Inode = inode_at v.inodes ino.0 in
     let points : (place block : ℕ) → slice_index (nameless old.kind old (is_opened opened ino)).blocks place ≡ block + 1 → slice_index old.blocks place ≡ block + 1 = nameless_points old.kind old (is_opened opened ino) in
@@ -131,7 +132,7 @@ all_false true false true p q r = absurd (cc)
 all_false true true c p q r = absurd (cc)
 all_false false b c p q r = absurd (cc)
 
-is_dropped : (tree : Tree) (number : ℕ) (file : FileState) → number < 512 → node_of tree number ≡ Some (Regular file) → file.writer ≡ None → is_open tree number ≡ false → is_named tree number ≡ false → node_of (swept tree) number ≡ None
+is_dropped : (tree : Tree) (number : ℕ) (file : FileState) → number < limits.inodes → node_of tree number ≡ Some (Regular file) → file.writer ≡ None → is_open tree number ≡ false → is_named tree number ≡ false → node_of (swept tree) number ≡ None
 is_dropped tree number file within at flushed shut nameless =
     let idle : is_idle tree number ≡ true = all_false (is_flushed_file (node_of tree number)) (is_open tree number) (is_named tree number) (ap is_flushed_file at ∙ ap is_none flushed) shut nameless in
     swept_node tree 512 number within ∙ ap (λ (b : Bool). if b then None else node_of tree number) idle
@@ -146,7 +147,7 @@ orphan_stands sectors others w inode tree less number file bytes s nameless = re
 }
 
 -- what is left of it stands for what the sweep leaves: a file that is listed as open may stay
-pub gone_stands : (sectors others : List (List ℕ)) (w : Volume) (inode : Inode) (tree less : Tree) (number : ℕ) (opened : Bool) → number < 512 → SameBytes sectors others inode → (opened ≡ false → is_open less number ≡ false)
+pub gone_stands : (sectors others : List (List ℕ)) (w : Volume) (inode : Inode) (tree less : Tree) (number : ℕ) (opened : Bool) → number < limits.inodes → SameBytes sectors others inode → (opened ≡ false → is_open less number ≡ false)
     → Loses sectors inode tree less number → StandsForNode others w (swept less) number (nameless inode.kind inode opened) (node_of (swept less) number)
 gone_stands sectors others w inode tree less number true within bytes shut (a_file file s flushed at unnamed) =
     subst (λ (k : Kind). StandsForNode others w (swept less) number (nameless k inode true) (node_of (swept less) number)) (sym s.kind)

@@ -1,5 +1,6 @@
 -- With the homes of an edit in place the sectors stand for a history, where the inodes and the slots do.
 use Rattle.std.proofs.Common.{◌≡◌, ◌∷◌, ℕ, List, length}
+use Rattle.cal_base.specs.Limits as limits
 use Rattle.shared_disk.specs.Sectors.{written}
 use Rattle.tree_law.specs.Legal.{tree_of}
 use Rattle.tree_law.specs.declared.entry.Entry.{Entry}
@@ -14,7 +15,7 @@ use Rattle.volume_edit.specs.declared.edit.Edit.{Edit}
 use Rattle.volume_plan.proofs.Fits.{Fits, KeepsFiles, StandForClients, StandForNodes}
 use Rattle.volume_plan.specs.Leads.{Leads, Mounted}
 
-pub edit_stands : (sectors : List (List ℕ)) (v : Volume) (e : Edit) (homes : List (ℕ × List ℕ)) (history : List Entry) → length sectors ≡ 2596 → SpellsVolume sectors v → IsVolume v → AreBlocksKept v → IsEdit v e → TakesFree v e → AreHomes v e homes
+pub edit_stands : (sectors : List (List ℕ)) (v : Volume) (e : Edit) (homes : List (ℕ × List ℕ)) (history : List Entry) → length sectors ≡ limits.sectors → SpellsVolume sectors v → IsVolume v → AreBlocksKept v → IsEdit v e → TakesFree v e → AreHomes v e homes
     → StandForNodes (written sectors homes) (edited v e) (tree_of history) → StandForClients (edited v e) (tree_of history) history → StandsForHistory (written sectors homes) (edited v e) history
 edit_stands sectors v e homes history long spells is kept edit takes are nodes clients = record {
   spells = edited_spelled sectors v e homes long spells is kept edit takes are;
@@ -23,7 +24,7 @@ edit_stands sectors v e homes history long spells is kept edit takes are nodes c
   clients = clients.slot;
 }
 
-keeps_files : (sectors : List (List ℕ)) (v : Volume) (e : Edit) (homes : List (ℕ × List ℕ)) → length sectors ≡ 2596 → SpellsVolume sectors v → IsVolume v → AreBlocksKept v → IsEdit v e → TakesFree v e → AreHomes v e homes
+keeps_files : (sectors : List (List ℕ)) (v : Volume) (e : Edit) (homes : List (ℕ × List ℕ)) → length sectors ≡ limits.sectors → SpellsVolume sectors v → IsVolume v → AreBlocksKept v → IsEdit v e → TakesFree v e → AreHomes v e homes
     → KeepsFiles v sectors (written sectors homes)
 keeps_files sectors v e homes long spells is kept edit takes are = record { same = λ number inode there file i. same_file sectors v e homes long spells is kept edit takes are number inode there file i }
 

@@ -1,5 +1,6 @@
 -- A purge, a reaping and a flush lead to sectors that stand for their history.
 use Rattle.std.proofs.Common.{◌≡◌, ◌<◌, ◌∷◌, ◌∙◌, ℕ, false, List, Some, None, slice_get, arith}
+use Rattle.cal_base.specs.Limits as limits
 use Rattle.std.proofs.lemmas.Option.{slice_get_within}
 use Rattle.cal_base.specs.declared.identity.ClientId.{ClientId}
 use Rattle.cal_base.specs.declared.identity.Ino.{Ino}
@@ -30,7 +31,7 @@ use Rattle.volume_plan.specs.Flushing.{FlushLeads, IsFlushDue, flush_of}
 use Rattle.volume_plan.specs.Leads.{Leads, Mounted}
 use Rattle.volume_plan.specs.Plans.{purge_of, reap_of}
 
-pub purge_leads : (sectors : List (List ℕ)) (v : Volume) (history : List Entry) (client : ClientId) → Mounted sectors v history → client.0 < 16 → is_purged (tree_of history) client ≡ false → Leads sectors v history (purge_of v client) (Purge client)
+pub purge_leads : (sectors : List (List ℕ)) (v : Volume) (history : List Entry) (client : ClientId) → Mounted sectors v history → client.0 < limits.clients → is_purged (tree_of history) client ≡ false → Leads sectors v history (purge_of v client) (Purge client)
 purge_leads sectors v history client m below present = fits_leads sectors v history (purge_of v client) (Purge client) m (purge_fits sectors v history client m below present)
 
 pub reaping_stands : (sectors : List (List ℕ)) (v : Volume) (history : List Entry) (ino : Ino) (inode : Inode) (homes : List (ℕ × List ℕ)) → Mounted sectors v history → slice_get v.inodes ino.0 ≡ Some inode → inode.kind ≡ File → node_at (tree_of history) ino ≡ None

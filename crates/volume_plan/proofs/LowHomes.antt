@@ -1,6 +1,7 @@
 -- The homes of an edit that alters no block of a directory stand below the data blocks, so that files and other
 -- inodes are as before.
 use Rattle.std.proofs.Common.{◌≡◌, ◌≢◌, ◌≤◌, ◌<◌, ◌+◌, ◌++◌, ◌||◌, ◌==◌, ◌/◌, ◌%◌, ◌∙◌, ℕ, zero, suc, ap, get_or, slice_index, Bool, true, false, List, [], ◌∷◌, Option, Some, None, if◌then◌else◌, refl, arith}
+use Rattle.cal_base.specs.Limits as limits
 use Rattle.std.specs.Prelude.{IfSome, option_map, ⊤}
 use Rattle.std.specs.List.{slice_set}
 use Rattle.std.proofs.lemmas.List.{get_or-set_other}
@@ -25,7 +26,7 @@ use Rattle.volume_plan.proofs.Frames.{stands_later}
 abbrev IsLow : Part → Type 0
 IsLow MapPart = ⊤
 IsLow (SlotPart client) = client < 16
-IsLow (InodePart number) = number ≤ 511
+IsLow (InodePart number) = number < limits.inodes
 IsLow (BlockPart number index) = ⊥
 
 abbrev AreLow : List Part → Type 0

@@ -1,5 +1,6 @@
 -- A file or a directory is made: its entry comes to the first empty slot, for a free inode.
 use Rattle.std.proofs.Common.{◌≡◌, ◌≢◌, ◌<◌, ◌≤◌, ◌+◌, ◌++◌, ℕ, zero, suc, false, List, [], length, get_or, replicate, slice_index, Option, Some, None, inl, refl, sym, ap, subst, ◌∙◌, arith}
+use Rattle.cal_base.specs.Limits as limits
 use Rattle.std.specs.Prelude.{IfSome}
 use Rattle.std.proofs.lemmas.Bool.{ne_eqb}
 use Rattle.std.proofs.lemmas.List.{length-replicate}
@@ -84,15 +85,15 @@ made v client number place name kind ino g = record {
 
 -- a name that doesn't stand in a directory with room for it, and a free inode
 pub record IsMaking (v : Volume) (tree : Tree) (place : Ino) (name : List ℕ) (kind : Kind) (ino : Ino) (g : Option Growth) : Type 0 where
-  pub count : length tree.nodes ≡ 512
-  pub within : place.0 < 512
+  pub count : length tree.nodes ≡ limits.inodes
+  pub within : place.0 < limits.inodes
   pub names : Names
   pub here : node_at tree place ≡ Some (Directory names)
   pub directory : IsDirectoryAt v place.0 names
   pub absent : map.get names name ≡ None
   pub is_name : IsName name
   pub from_one : 1 ≤ ino.0
-  pub to_511 : ino.0 ≤ 511
+  pub to_511 : ino.0 < limits.inodes
   pub nothing : node_at tree ino ≡ None
   pub free : (inode_at v.inodes ino.0).kind ≡ Free
   pub some : kind ≢ Free
@@ -134,7 +135,7 @@ module _ (v : Volume) (tree : Tree) (client : ClientId) (number : ℕ) (place : 
       let fewer = room.full.fewer in
       record {
         directory = subst (λ (n : ℕ). IsStaying v edit n) at place_stays;
-        fewer = subst (λ (n : ℕ). length (slots_of v n) < 1024) at fewer;
+        fewer = subst (λ (n : ℕ). length (slots_of v n) < limits.directory_entries) at fewer;
         block = (let w = room.within in let c = is.map in omega arith);
         filled = record { directory = at; place = subst (λ (n : ℕ). length (slots_of v n) ≤ first_empty old_slots) at (omega arith) };
       }
@@ -144,13 +145,13 @@ module _ (v : Volume) (tree : Tree) (client : ClientId) (number : ℕ) (place : 
   made_is_edit slot = record {
     some = inl refl;
     slot = slot;
-    inode = record { from_one = m.from_one; to_511 = m.to_511; inode = new_is_inode kind m.some; empty = new_empty kind m.some };
+    inode = record { from_one = m.from_one; to_511 = (let few = m.to_511 in omega arith); inode = new_is_inode kind m.some; empty = new_empty kind m.some };
     growth = made_grows g m.ready;
     leaving = tt;
     entering = record {
       directory = place_stays;
       within = within_left;
-      entry = record { name = m.is_name; from_one = m.from_one; to_511 = m.to_511 };
+      entry = record { name = m.is_name; from_one = m.from_one; to_511 = (let few = m.to_511 in omega arith) };
       alone = λ q other at same. absurd (absent_left q other at same);
     };
   }

@@ -1,5 +1,6 @@
 -- With a new entry and its inode the inodes stand for the tree with the new name and node.
 use Rattle.std.proofs.Common.{◌≡◌, ◌≢◌, ◌<◌, ◌/◌, ℕ, true, false, List, [], Option, Some, None, Ok, Err, ok_or, inl, inr, refl, sym, ap, subst, ◌∙◌, arith}
+use Rattle.cal_base.specs.Limits as limits
 use Rattle.std.proofs.lemmas.Bool.{cases_eq, ne_eqb}
 use Rattle.std.proofs.lemmas.List.{get_or-set_other, get_or-set_same, length-set}
 use Rattle.std.specs.FinMap as map
@@ -158,7 +159,7 @@ module _ (sectors others : List (List ℕ)) (v : Volume) (tree : Tree) (client :
     entered = ne_eqb place.0 other (λ same. no_place (sym same));
   }
 
-  at_each : (other : Ino) → other.0 < 512 → StandsForNode others (edited v edit) later other.0 (inode_at (edited v edit).inodes other.0) (node_at later other)
+  at_each : (other : Ino) → other.0 < limits.inodes → StandsForNode others (edited v edit) later other.0 (inode_at (edited v edit).inodes other.0) (node_at later other)
   at_each other within = elim (cases_eq other.0 ino.0) [
     | inl same ↦ subst (λ (n : ℕ). StandsForNode others (edited v edit) later n (inode_at (edited v edit).inodes n) (node_at later (record { 0 = n }))) (sym same) at_new
     | inr no_ino ↦ elim (cases_eq other.0 place.0) [

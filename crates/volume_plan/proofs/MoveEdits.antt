@@ -1,5 +1,6 @@
 -- The edit of `rename` keeps a volume within its grammar.
 use Rattle.std.proofs.Common.{◌≡◌, ◌≢◌, ◌==◌, ◌<◌, ◌&&◌, ◌∷◌, [], ℕ, Bool, true, false, not, nat_eq, nat_le, List, Option, Some, None, Result, Ok, Err, is_some, ok_or, refl, sym, ap, ◌∙◌, subst, arith, if◌then◌else◌}
+use Rattle.cal_base.specs.Limits as limits
 use Rattle.std.proofs.lemmas.Bool.Decides.{nat_tests}
 use Rattle.std.specs.Cmp.Lexicographic.{pointwise}
 use Rattle.std.specs.FinMap as map
@@ -27,7 +28,7 @@ use Rattle.volume_plan.proofs.ShownNodes.{shown_at}
 -- what a move replaces is neither of the two directories; where it replaces nothing there is room
 pub record IsFreeGoal (v : Volume) (move : Move) (goal : List ℕ) : Type 0 where
   pub absent : IsAbsent (slots_of v move.to.0) goal
-  pub few : move.from.0 ≢ move.to.0 → entry_count (slots_of v move.to.0) < 1024
+  pub few : move.from.0 ≢ move.to.0 → entry_count (slots_of v move.to.0) < limits.directory_entries
 
 pub record IsGoal (v : Volume) (move : Move) (goal : List ℕ) (target : Ino) : Type 0 where
   pub named : NamedIn v move.to goal target

@@ -1,5 +1,6 @@
 -- What `rename` leaves of a tree.
 use Rattle.std.proofs.Common.{◌≡◌, ◌≢◌, ◌≤◌, ◌<◌, ◌==◌, ◌⊎◌, ℕ, Bool, true, false, List, length, Option, Some, None, Ok, Err, ok_or, IfSome, cond, is_none, inl, inr, refl, sym, ap, subst, ◌∙◌, arith, eq-eqb, if◌then◌else◌}
+use Rattle.cal_base.specs.Limits as limits
 use Rattle.std.proofs.lemmas.Bool.{cases_eq, ne_eqb}
 use Rattle.std.proofs.lemmas.List.{get_or-set_other, get_or-set_same, length-set}
 use Rattle.std.specs.Ordering.{eq_by_cmp}
@@ -42,7 +43,7 @@ IsApart replaced number = IfSome replaced (λ target. number ≢ target.0)
 -- what is replaced
 pub record IsReplaced (sectors : List (List ℕ)) (v : Volume) (tree less : Tree) (from to target : Ino) : Type 0 where
   pub from_one : 1 ≤ target.0
-  pub to_511 : target.0 ≤ 511
+  pub to_511 : target.0 < limits.inodes
   pub not_from : target.0 ≢ from.0
   pub not_to : target.0 ≢ to.0
   pub loses : Loses sectors (inode_at v.inodes target.0) tree less target.0
@@ -52,7 +53,7 @@ pub record Moved (sectors : List (List ℕ)) (v : Volume) (tree less : Tree) (fr
   pub former : Named tree from ino name
   pub names : Names
   pub there : node_at tree to ≡ Some (Directory names)
-  pub place_511 : to.0 ≤ 511
+  pub place_511 : to.0 < limits.inodes
   pub two : from.0 ≡ to.0 → name ≢ goal
   pub stood : IfSome replaced (λ target. finite.get names goal ≡ Some target)
   pub vacant : replaced ≡ None → finite.get names goal ≡ None
@@ -184,7 +185,7 @@ module _ (sectors : List (List ℕ)) (v : Volume) (tree : Tree) (from to ino : I
   abbrev moved_tree : Tree
   moved_tree = less tree from to ino name goal names all former there two
 
-  place_few : to.0 ≤ 511
+  place_few : to.0 < limits.inodes
   place_few = (let w = there_within tree.nodes to.0 (Directory names) there in let c = all.count in omega arith)
 
   -- nothing is replaced
@@ -221,7 +222,7 @@ module _ (sectors : List (List ℕ)) (v : Volume) (tree : Tree) (from to ino : I
     pub target_node : Target tree target → node_of moved_tree target.0 ≡ node_of tree target.0
     target_node t = at_other tree from to ino name goal names all former there two target.0 (not_from t) (not_to t)
 
-    target_within : target.0 < 512
+    target_within : target.0 < limits.inodes
     target_within = (let few = (all.number to.0 goal target stood_there).to_511 in omega arith)
 
     pub moved_over_file : (f : IsFileNode (node_at tree target)) → is_none (writer_of (node_at tree target)) ≡ true → Moved sectors v tree moved_tree from to ino (Some target) name goal
@@ -242,7 +243,7 @@ module _ (sectors : List (List ℕ)) (v : Volume) (tree : Tree) (from to ino : I
           named = named_apart;
           goes = record {
             from_one = n.from_one;
-            to_511 = n.to_511;
+            to_511 = (let few = n.to_511 in omega arith);
             not_from = not_from t;
             not_to = not_to t;
             loses = a_file f.file
@@ -273,7 +274,7 @@ module _ (sectors : List (List ℕ)) (v : Volume) (tree : Tree) (from to ino : I
           named = λ number apart. with_node_named moved_tree target.0 number None (sym (ap (names_it number) (target_node t) ∙ names_no_number (node_at tree target) number e)) ∙ named_apart number apart;
           goes = record {
             from_one = n.from_one;
-            to_511 = n.to_511;
+            to_511 = (let few = n.to_511 in omega arith);
             not_from = not_from t;
             not_to = not_to t;
             loses = a_directory

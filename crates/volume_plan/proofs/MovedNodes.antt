@@ -1,5 +1,6 @@
 -- A move: its edit keeps the grammar, and the inodes stand for the tree in which the entry has moved.
 use Rattle.std.proofs.Common.{◌≡◌, ◌≢◌, ◌≤◌, ◌<◌, ◌+◌, ℕ, false, List, length, slice_index, Option, Some, None, IfSome, inl, inr, refl, sym, ap, subst, ◌∙◌, arith}
+use Rattle.cal_base.specs.Limits as limits
 use Rattle.std.specs.Prelude.{option_map}
 use Rattle.std.proofs.lemmas.Bool.{cases_eq, ne_eqb}
 use Rattle.cal_base.specs.declared.identity.ClientId.{ClientId}
@@ -42,14 +43,14 @@ module _ (sectors : List (List ℕ)) (v : Volume) (tree less : Tree) (client : C
 
   from_stays : IsStaying v e from.0
   from_stays = record {
-    to_511 = r.former.place_511;
+    to_511 = (let few = r.former.place_511 in omega arith);
     kind = (from_directory sectors v tree less from to ino replaced name goal is stand r).kind;
     stays = from_kept sectors v tree less client number opened from to ino replaced name goal g place is stand r l;
   }
 
   to_stays : IsStaying v e to.0
   to_stays = record {
-    to_511 = r.place_511;
+    to_511 = (let few = r.place_511 in omega arith);
     kind = (to_directory sectors v tree less from to ino replaced name goal is stand r).kind;
     stays = to_kept sectors v tree less client number opened from to ino replaced name goal g place is stand r l;
   }
@@ -60,7 +61,7 @@ module _ (sectors : List (List ℕ)) (v : Volume) (tree less : Tree) (client : C
   -- ---- the grammar
 
   gone_edits : (o : Option Ino) → IfSome o (IsReplaced sectors v tree less from to) → IfSome (option_map (inode_gone v opened) o) IsInodeEdit
-  gone_edits (Some target) h = gone_edit v opened target h.from_one h.to_511 (inode_is v is target.0 (let few = h.to_511 in omega arith))
+  gone_edits (Some target) h = gone_edit v opened target h.from_one (let few = h.to_511 in omega arith) (inode_is v is target.0 (let few = h.to_511 in omega arith))
   gone_edits None h = tt
 
   different : (grown : Growth) → g ≡ Some grown → from.0 ≢ to.0
@@ -69,10 +70,10 @@ module _ (sectors : List (List ℕ)) (v : Volume) (tree less : Tree) (client : C
   grows : (o : Option Growth) → g ≡ o → IfSome o (λ grown. IsReady v to then_slots (Some grown)) → IfSome o (λ grown. length (slots_of v to.0) ≤ place) → IfSome o (IsGrowth v e)
   grows (Some x) some ready behind =
       let at : to.0 ≡ x.directory.0 = sym (ap (λ (i : Ino). i.0) ready.directory) in
-      let fewer : length (slots_of v to.0) < 1024 = subst (λ (slots : Slots). length slots < 1024) (then_other sectors v tree less from to ino replaced name goal is stand r (different x some)) ready.full.fewer in
+      let fewer : length (slots_of v to.0) < limits.directory_entries = subst (λ (slots : Slots). length slots < limits.directory_entries) (then_other sectors v tree less from to ino replaced name goal is stand r (different x some)) ready.full.fewer in
       record {
         directory = subst (λ (n : ℕ). IsStaying v e n) at to_stays;
-        fewer = subst (λ (n : ℕ). length (slots_of v n) < 1024) at fewer;
+        fewer = subst (λ (n : ℕ). length (slots_of v n) < limits.directory_entries) at fewer;
         block = (let w = ready.within in let c = is.map in omega arith);
         filled = record { directory = at; place = subst (λ (n : ℕ). length (slots_of v n) ≤ place) at behind };
       }
@@ -91,7 +92,7 @@ module _ (sectors : List (List ℕ)) (v : Volume) (tree less : Tree) (client : C
     entering = record {
       directory = to_stays;
       within = subst (λ (slots : Slots). place < length slots) (sym left_is) l.free.within;
-      entry = record { name = named; from_one = r.former.from_one; to_511 = r.former.to_511 };
+      entry = record { name = named; from_one = r.former.from_one; to_511 = (let few = r.former.to_511 in omega arith) };
       alone = λ q other at same. l.free.alone q other (ap (λ (slots : Slots). entry_at slots q) (sym left_is) ∙ at) same;
     };
   }
@@ -148,7 +149,7 @@ module _ (sectors : List (List ℕ)) (v : Volume) (tree less : Tree) (client : C
     not_grown (Some x) n ready apart = ready_other v to then_slots (Some x) n ready apart
     not_grown None n ready apart = refl
 
-    at_other : (n : ℕ) → n < 512 → n ≢ from.0 → n ≢ to.0 → IsApart replaced n → Stands n
+    at_other : (n : ℕ) → n < limits.inodes → n ≢ from.0 → n ≢ to.0 → IsApart replaced n → Stands n
     at_other n within no_from no_to apart =
         let kept : IsKept e n = record {
           edited = not_there n apart;
@@ -161,11 +162,11 @@ module _ (sectors : List (List ℕ)) (v : Volume) (tree less : Tree) (client : C
     at_replaced : (target : Ino) → replaced ≡ Some target → (is_opened opened target ≡ false → is_open less target.0 ≡ false) → Stands target.0
     at_replaced target some shut =
         let h : IsReplaced sectors v tree less from to target = some_has (IsReplaced sectors v tree less from to) replaced target r.goes some in
-        let within : target.0 < 512 = (let few = h.to_511 in omega arith) in
+        let within : target.0 < limits.inodes = (let few = h.to_511 in omega arith) in
         subst (λ (inode : Inode). StandsForNode others w (swept less) target.0 inode (node_of (swept less) target.0)) (sym (inode_put v e (inode_gone v opened target) is.inode_count edit (ap (option_map (inode_gone v opened)) some)))
         (gone_stands sectors others w (inode_at v.inodes target.0) tree less target.0 (is_opened opened target) within (keeps_bytes sectors others v target.0 (inode_at v.inodes target.0) keeps (inode_there v is target.0 within)) shut h.loses)
 
-    at_kept : (n : ℕ) → n < 512 → IsApart replaced n → Stands n
+    at_kept : (n : ℕ) → n < limits.inodes → IsApart replaced n → Stands n
     at_kept n within apart = elim (cases_eq n to.0) [
       | inl same ↦ subst Stands (sym same) at_to
       | inr no_to ↦ elim (cases_eq n from.0) [
@@ -174,7 +175,7 @@ module _ (sectors : List (List ℕ)) (v : Volume) (tree less : Tree) (client : C
       ]
     ]
 
-    at_each : (o : Option Ino) → replaced ≡ o → (shut : (target : Ino) → is_opened opened target ≡ false → is_open less target.0 ≡ false) → (n : ℕ) → n < 512 → Stands n
+    at_each : (o : Option Ino) → replaced ≡ o → (shut : (target : Ino) → is_opened opened target ≡ false → is_open less target.0 ≡ false) → (n : ℕ) → n < limits.inodes → Stands n
     at_each None none shut n within = at_kept n within (subst (λ (o : Option Ino). IsApart o n) (sym none) tt)
     at_each (Some target) some shut n within = elim (cases_eq n target.0) [
       | inl same ↦ subst Stands (sym same) (at_replaced target some (shut target))

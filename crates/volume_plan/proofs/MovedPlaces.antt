@@ -1,5 +1,6 @@
 -- Where the entry of a move lands: in the slot of the name that it replaces, or in the first empty one.
 use Rattle.std.proofs.Common.{◌≡◌, ◌≢◌, ◌≤◌, ◌<◌, ◌&&◌, ℕ, zero, suc, Bool, false, nat_lt, List, [], ◌∷◌, length, set, Option, Some, None, IfSome, inl, inr, refl, sym, ap, subst, ◌∙◌, arith, if◌then◌else◌}
+use Rattle.cal_base.specs.Limits as limits
 use Rattle.std.proofs.lemmas.Bool.{cases_eq, ne_eqb}
 use Rattle.std.proofs.lemmas.List.{get_or-set_other, length-set}
 use Rattle.std.specs.FinMap as finite
@@ -90,12 +91,12 @@ module _ (sectors : List (List ℕ)) (v : Volume) (tree less : Tree) (from to in
       let first = first_before (set slots left_place None) left_place within empty in
       subst (λ (xs : Slots). first_empty xs < length xs) (sym (then_same sectors v tree less from to ino replaced name goal is stand r same)) (omega arith)
 
-  ready_then : (from.0 ≢ to.0 → finite.len r.names < 1024) → nat_lt (free_count v) (blocks_needed then_there) ≡ false → IsReady v to then_there (growth_of v to then_there)
+  ready_then : (from.0 ≢ to.0 → finite.len r.names < limits.directory_entries) → nat_lt (free_count v) (blocks_needed then_there) ≡ false → IsReady v to then_there (growth_of v to then_there)
   ready_then few enough = elim (cases_eq from.0 to.0) [
     | inl same ↦ subst (λ (o : Option Growth). IsReady v to then_there o) (sym (no_growth v to then_there (room_same same))) (room_same same)
     | inr apart ↦ (let d = to_directory sectors v tree less from to ino replaced name goal is stand r in
-        let count : entry_count slots < 1024 = (let all = sym (names_of-len slots d.sized.directory.distinct) ∙ ap finite.len d.same in let less = few apart in omega arith) in
-        readied v to then_there (subst (λ (xs : Slots). entry_count xs < 1024) (sym (then_other sectors v tree less from to ino replaced name goal is stand r apart)) count) enough)
+        let count : entry_count slots < limits.directory_entries = (let all = sym (names_of-len slots d.sized.directory.distinct) ∙ ap finite.len d.same in let less = few apart in omega arith) in
+        readied v to then_there (subst (λ (xs : Slots). entry_count xs < limits.directory_entries) (sym (then_other sectors v tree less from to ino replaced name goal is stand r apart)) count) enough)
   ]
 
   if_ready : (o : Option Growth) → IsReady v to then_there o → IfSome o (λ grown. IsReady v to then_there (Some grown))
@@ -109,7 +110,7 @@ module _ (sectors : List (List ℕ)) (v : Volume) (tree less : Tree) (from to in
   ]
   behind_then None ready alone = tt
 
-  pub lands_alone : finite.get r.names goal ≡ None → (from.0 ≢ to.0 → finite.len r.names < 1024) → nat_lt (free_count v) (blocks_needed then_there) ≡ false
+  pub lands_alone : finite.get r.names goal ≡ None → (from.0 ≢ to.0 → finite.len r.names < limits.directory_entries) → nat_lt (free_count v) (blocks_needed then_there) ≡ false
       → IsLanding v from to name goal (growth_of v to then_there) (first_empty then_there)
   lands_alone vacant few enough =
       let g : Option Growth = growth_of v to then_there in

@@ -1,5 +1,6 @@
 -- The slots of the directories between which an entry moves.
 use Rattle.std.proofs.Common.{◌≡◌, ◌≢◌, ◌≤◌, ◌<◌, ◌==◌, ℕ, Bool, false, List, [], length, get_or, Option, Some, None, IfSome, inl, inr, refl, sym, ap, subst, ◌∙◌, arith, eq-eqb}
+use Rattle.cal_base.specs.Limits as limits
 use Rattle.std.specs.Prelude.{option_map}
 use Rattle.std.proofs.lemmas.Bool.{cases_eq, ne_eqb}
 use Rattle.std.specs.List.{slice_set}
@@ -64,10 +65,10 @@ module _ (sectors : List (List ℕ)) (v : Volume) (tree less : Tree) (from to in
   old_place = place_of (slots_of v from.0) name
 
   -- the two directories
-  pub from_within : from.0 < 512
+  pub from_within : from.0 < limits.inodes
   from_within = (let few = r.former.place_511 in omega arith)
 
-  pub to_within : to.0 < 512
+  pub to_within : to.0 < limits.inodes
   to_within = (let few = r.place_511 in omega arith)
 
   pub from_directory : IsDirectoryAt v from.0 r.former.names

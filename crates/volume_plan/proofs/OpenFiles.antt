@@ -1,5 +1,5 @@
 -- A plan asks of the files that are open only whether a file is one of them.
-use Rattle.std.proofs.Common.{◌≡◌, ◌↔◌, ◌==◌, ℕ, Bool, true, false, List, [], ◌∷◌, Option, Some, None, Result, Ok, Err, Contains, if◌then◌else◌, refl, sym, ap, subst}
+use Rattle.std.proofs.Common.{◌≡◌, ◌↔◌, ◌==◌, ℕ, Bool, true, false, List, Option, Some, None, Result, Ok, Err, Contains, if◌then◌else◌, refl, sym, ap, subst}
 use Rattle.std.specs.Prelude.{option_map}
 use Rattle.std.proofs.lemmas.Bool.{eq-eqb, eqb-true}
 use Rattle.std.proofs.lemmas.List.Folds.{Any-from_list_any, list_any-from_Any}
@@ -16,7 +16,7 @@ use Rattle.tree_law.specs.declared.reply.Why.{Why}
 use Rattle.volume.specs.Volume.{Volume}
 use Rattle.volume_edit.specs.Edit.{inode_at}
 use Rattle.volume_edit.specs.declared.edit.InodeEdit.{InodeEdit}
-use Rattle.volume_plan.specs.Plans.{Plan, answered, growth_moved, if_room, if_there, inode_gone, is_opened, leaving_of, moving, moving_by, nameless, needed_moved, place_entered, plan, removing, removing_at, standing}
+use Rattle.volume_plan.specs.Plans.{Plan, answered, growth_moved, if_room, if_there, inode_gone, is_opened, leaving_of, moving_by, nameless, needed_moved, place_entered, plan, removing_at, standing}
 use Rattle.volume_plan.specs.Shown.{shown}
 
 abbrev AskAlike : List Ino → List Ino → Type 0

@@ -1,5 +1,6 @@
 -- Each plan's edit keeps a volume within its grammar.
 use Rattle.std.proofs.Common.{◌≡◌, ◌⊎◌, ◌==◌, ◌≤◌, ◌<◌, ◌+◌, ◌-◌, ◌^◌, ◌++◌, ◌∷◌, [], ℕ, Bool, true, false, List, length, replicate, Option, Some, None, IfSome, Result, Ok, Err, get_or, refl, sym, ap, ◌∙◌, subst, inl, inr, arith, nat_lt, if◌then◌else◌, length-append}
+use Rattle.cal_base.specs.Limits as limits
 use Rattle.std.proofs.lemmas.List.{get_or-set_same, length-replicate}
 use Rattle.std.proofs.lemmas.Bool.Decides.{nat_tests}
 use Rattle.std.proofs.lemmas.List.Sums.{count_by-le-length}
@@ -32,7 +33,7 @@ use Rattle.volume_plan.proofs.Rooms.{HasRoom, new_place_room}
 
 -- a client's request in its range
 pub record InRange (client : ClientId) (number : ℕ) : Type 0 where
-  pub known : client.0 < 16
+  pub known : client.0 < limits.clients
   pub from_one : 1 ≤ number
   pub fits : number < 2 ^ 64
 
@@ -70,7 +71,7 @@ pub record NotGrown (v : Volume) (place : Ino) (slots : Slots) : Type 0 where
 pub record GrownBy (v : Volume) (place : Ino) (slots : Slots) : Type 0 where
   pub block : ℕ
   pub is : growth_of v place slots ≡ Some (record { directory = place; block = block })
-  pub within : block < 2048
+  pub within : block < limits.blocks
   pub grown : Grown slots
 
 grown_by : (v : Volume) (place : Ino) (slots : Slots) (block : ℕ) → grows slots ≡ true → least_block v ≡ Some block → growth_of v place slots ≡ Some (record { directory = place; block = block })
@@ -121,7 +122,7 @@ making_edit v client number place name kind ino is r room named new inode enough
       entering = record {
         directory = stay;
         within = g.within;
-        entry = record { name = named; from_one = new.from_one; to_511 = new.to_511 };
+        entry = record { name = named; from_one = new.from_one; to_511 = (let few = new.to_511 in omega arith) };
         alone = λ other e there same. absurd (g.absent other e there same);
       };
     }

@@ -1,5 +1,6 @@
 -- A purge of a client: files have what lasts of them alone, and the client's slot says that it is purged.
 use Rattle.std.proofs.Common.{◌≡◌, ◌≢◌, ◌<◌, ◌||◌, ℕ, zero, suc, Bool, true, false, List, [], ◌∷◌, length, map, get_or, slice_get, Option, Some, None, inl, inr, refl, sym, ap, subst, ◌∙◌, arith, if◌then◌else◌}
+use Rattle.cal_base.specs.Limits as limits
 use Rattle.std.specs.List.{list_any, slice_set}
 use Rattle.std.proofs.lemmas.Bool.{cases_eq}
 use Rattle.std.proofs.lemmas.List.{get_or-set_other}
@@ -93,7 +94,7 @@ clients_purged v history client within stand = record { slot = at }
           record { purged = old.purged ∙ sym (purged_as_before (tree_of history) client other apart); call = old.call; reply = old.reply; flush = old.flush })
     ]
 
-pub purge_edits : (v : Volume) (client : ClientId) → IsVolume v → client.0 < 16 → IsEdit v (purge_of v client)
+pub purge_edits : (v : Volume) (client : ClientId) → IsVolume v → client.0 < limits.clients → IsEdit v (purge_of v client)
 purge_edits v client is below =
     let old : IsSlot (slot_at v.slots client.0) = is.slots client.0 (slot_at v.slots client.0) (slot_there v.slots client.0 (let l = is.slot_count in omega arith)) in
     record {
@@ -105,7 +106,7 @@ purge_edits v client is below =
       entering = tt;
     }
 
-pub purge_fits : (sectors : List (List ℕ)) (v : Volume) (history : List Entry) (client : ClientId) → Mounted sectors v history → client.0 < 16 → is_purged (tree_of history) client ≡ false
+pub purge_fits : (sectors : List (List ℕ)) (v : Volume) (history : List Entry) (client : ClientId) → Mounted sectors v history → client.0 < limits.clients → is_purged (tree_of history) client ≡ false
     → Fits sectors v history (purge_of v client) (Purge client)
 purge_fits sectors v history client m below present = record {
   edit = purge_edits v client m.volume below;

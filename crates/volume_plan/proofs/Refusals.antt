@@ -1,5 +1,6 @@
 -- A plan that alters no entry fits: one that is refused, and a move of an entry to itself.
 use Rattle.std.proofs.Common.{◌≡◌, ◌≢◌, ◌≤◌, ◌<◌, ◌^◌, ℕ, zero, suc, Bool, true, false, nat_lt, List, [], ◌∷◌, get_or, Option, Some, None, Result, Ok, Err, is_none, inl, refl, sym, ap, subst, ◌∙◌, arith, if◌then◌else◌}
+use Rattle.cal_base.specs.Limits as limits
 use Rattle.std.proofs.lemmas.Bool.{ltb-true}
 use Rattle.std.proofs.lemmas.List.{length-set}
 use Rattle.std.proofs.lemmas.List.Sums.{count_by-le-length}
@@ -41,7 +42,7 @@ use Rattle.volume_plan.proofs.Similar.{entry_there, same_new_place, same_parent_
 use Rattle.volume_plan.proofs.Whys.{move_whys, new_place_whys}
 
 -- a slot with the reply of a change
-answered_slot : (v : Volume) (client : ClientId) (number : ℕ) (reply : Reply) → IsVolume v → client.0 < 16 → 1 ≤ number → number < 2 ^ 64 → IsChangeReply reply → IsSlotEdit (answered v client number reply)
+answered_slot : (v : Volume) (client : ClientId) (number : ℕ) (reply : Reply) → IsVolume v → client.0 < limits.clients → 1 ≤ number → number < 2 ^ 64 → IsChangeReply reply → IsSlotEdit (answered v client number reply)
 answered_slot v client number reply is known some fits change =
     let old = is.slots client.0 _ (slot_there v.slots client.0 (let count = is.slot_count in omega arith)) in
     record {

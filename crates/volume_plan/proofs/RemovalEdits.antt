@@ -1,5 +1,6 @@
 -- The edits of `unlink` and `rmdir` keep a volume within its grammar.
 use Rattle.std.proofs.Common.{◌≡◌, ◌≢◌, ◌==◌, ◌≤◌, ◌<◌, ◌∷◌, [], ℕ, Bool, true, false, List, length, Option, Some, None, Result, Ok, Err, ok_or, refl, sym, ap, subst, inl, arith, if◌then◌else◌}
+use Rattle.cal_base.specs.Limits as limits
 use Rattle.std.proofs.lemmas.Bool.Decides.{nat_tests}
 use Rattle.std.specs.Ordering.{nat_cmp}
 use Rattle.std.specs.Cmp.Lexicographic.{slice_cmp}
@@ -89,7 +90,7 @@ nameless_is File inode true kind is =
       empty = subst (λ (k : Kind). HasSlots k (nameless File inode true) []) (sym kind) refl;
     }
 
-pub gone_edit : (v : Volume) (opened : List Ino) (ino : Ino) → IsVolume v → 1 ≤ ino.0 → ino.0 ≤ 511 → IsInodeEdit (inode_gone v opened ino)
+pub gone_edit : (v : Volume) (opened : List Ino) (ino : Ino) → IsVolume v → 1 ≤ ino.0 → ino.0 < limits.inodes → IsInodeEdit (inode_gone v opened ino)
 gone_edit v opened ino is from_one to_511 =
     let count = is.inode_count in
     let l = nameless_is (inode_at v.inodes ino.0).kind (inode_at v.inodes ino.0) (is_opened opened ino) refl (is.inodes ino.0 (inode_at v.inodes ino.0) (get_there v.inodes ino.0 free_inode (omega arith))) in
@@ -103,7 +104,7 @@ removing_edit v client number opened touched place ino name is r n apart =
     record {
       some = inl refl;
       slot = answered_is v client number Done is r.known r.from_one r.fits tt;
-      inode = gone_edit v opened ino is entry.from_one entry.to_511;
+      inode = gone_edit v opened ino is entry.from_one (let few = entry.to_511 in omega arith);
       growth = tt;
       leaving = record {
         directory = record { to_511 = directory_within v place.0 is n.listed.kind; kind = n.listed.kind; stays = is_other ino.0 place.0 apart };

@@ -1,5 +1,6 @@
 -- The plans of `unlink` and `rmdir` fit.
 use Rattle.std.proofs.Common.{◌≡◌, ◌<◌, ◌^◌, ℕ, Bool, true, false, List, [], ◌∷◌, length, get_or, Option, Some, None, Result, Ok, Err, is_none, inl, refl, sym, ap, subst, ◌∙◌, arith}
+use Rattle.cal_base.specs.Limits as limits
 use Rattle.cal_base.specs.declared.directory_entry.EntryKind.TheVariants.{File as IsFile}
 use Rattle.cal_base.specs.declared.identity.ClientId.{ClientId}
 use Rattle.cal_base.specs.declared.identity.Ino.{Ino}
@@ -51,7 +52,7 @@ pub stand_clients : (sectors : List (List ℕ)) (v : Volume) (history : List Ent
 stand_clients sectors v history m = record { slot = m.stands.clients }
 
 -- a slot that says that a change was carried out
-pub done_slot : (v : Volume) (client : ClientId) (number : ℕ) → IsVolume v → client.0 < 16 → number < 2 ^ 64 → IsSlotEdit (answered v client number Done)
+pub done_slot : (v : Volume) (client : ClientId) (number : ℕ) → IsVolume v → client.0 < limits.clients → number < 2 ^ 64 → IsSlotEdit (answered v client number Done)
 done_slot v client number is known fits =
     let within : client.0 < length v.slots = (let count = is.slot_count in omega arith) in
     let old = is.slots client.0 _ (slot_there v.slots client.0 within) in
@@ -85,7 +86,7 @@ module _ (sectors : List (List ℕ)) (v : Volume) (history : List Entry) (client
   removal_fits touched place ino name less next r tables later =
       let is = m.volume in
       let stand = stand_nodes sectors v history m in
-      let within : ino.0 < 512 = (let few = r.to_511 in omega arith) in
+      let within : ino.0 < limits.inodes = (let few = r.to_511 in omega arith) in
       let edit = removal_edits sectors v tree less client number opened place ino name is stand r (done_slot v client number is a.known a.fits) (inode_is v is ino.0 within) in
       record {
         edit = edit;
@@ -119,7 +120,7 @@ module _ (sectors : List (List ℕ)) (v : Volume) (history : List Entry) (client
       → inode_at (edited v (plan v client number call opened).edit).inodes ino.0 ≡ (inode_gone v opened ino).inode
   removes_inode ino m a r =
       let is = m.volume in
-      let within : ino.0 < 512 = (let few = r.removed.to_511 in omega arith) in
+      let within : ino.0 < limits.inodes = (let few = r.removed.to_511 in omega arith) in
       let edit = removal_edits sectors v (tree_of history) r.less client number opened r.place ino r.name is (stand_nodes sectors v history m) r.removed (done_slot v client number is a.known a.fits) (inode_is v is ino.0 within) in
       ap (λ (q : Plan). inode_at (edited v q.edit).inodes ino.0) r.planned
       ∙ inode_put v (removal v client number opened r.place ino r.name) (inode_gone v opened ino) is.inode_count edit refl
@@ -217,7 +218,7 @@ kept_or_freed File old false kind is = refl
 kept_or_freed Dir old opened kind is = absurd (cc)
 kept_or_freed Free old opened kind is = absurd (cc)
 
-pub loses_file : (sectors : List (List ℕ)) (v : Volume) (tree : Tree) (ino : Ino) → IsVolume v → StandForNodes sectors v tree → ino.0 < 512 → kind_of (node_at tree ino) ≡ Some IsFile → (inode_at v.inodes ino.0).kind ≡ File
+pub loses_file : (sectors : List (List ℕ)) (v : Volume) (tree : Tree) (ino : Ino) → IsVolume v → StandForNodes sectors v tree → ino.0 < limits.inodes → kind_of (node_at tree ino) ≡ Some IsFile → (inode_at v.inodes ino.0).kind ≡ File
 loses_file sectors v tree ino is stand within kind =
     let f = file_node (node_at tree ino) kind in
     let s : StandsForFile sectors (inode_at v.inodes ino.0) tree ino.0 f.file = subst (λ (node : Option Node). StandsForNode sectors v tree ino.0 (inode_at v.inodes ino.0) node) f.is (node_there sectors v tree is stand ino within) in

@@ -1,5 +1,6 @@
 -- What `unlink` and `rmdir` leave of a tree.
 use Rattle.std.proofs.Common.{◌≡◌, ◌≢◌, ◌≤◌, ◌<◌, ◌==◌, ℕ, zero, suc, true, false, List, [], ◌∷◌, length, get_or, Option, Some, None, Ok, Err, ok_or, is_none, refl, sym, ap, subst, ◌∙◌, arith, eqb-true, if◌then◌else◌}
+use Rattle.cal_base.specs.Limits as limits
 use Rattle.std.proofs.lemmas.List.{get_or-set_other, get_or-set_same, length-set}
 use Rattle.std.specs.FinMap as finite
 use Rattle.cal_base.specs.declared.directory_entry.EntryKind.TheVariants.{File as IsFile, Directory as IsDirectory}
@@ -64,9 +65,9 @@ pub record Named (tree : Tree) (place ino : Ino) (name : List ℕ) : Type 0 wher
   pub names : Names
   pub here : node_at tree place ≡ Some (Directory names)
   pub got : finite.get names name ≡ Some ino
-  pub place_511 : place.0 ≤ 511
+  pub place_511 : place.0 < limits.inodes
   pub from_one : 1 ≤ ino.0
-  pub to_511 : ino.0 ≤ 511
+  pub to_511 : ino.0 < limits.inodes
 
 pub named_there : (tree : Tree) (place ino : Ino) (name : List ℕ) → OneNamed tree.nodes → kind_of (node_at tree place) ≡ Some IsDirectory → NamesIt (node_at tree place) name ino → Named tree place ino name
 named_there tree place ino name all kind is =
@@ -79,7 +80,7 @@ named_there tree place ino name all kind is =
       got = found_name (finite.get d.names name) ino (subst (λ (node : Option Node). NamesIt node name ino) d.is is);
       place_511 = (let below = there_within tree.nodes place.0 (Directory d.names) d.is in omega arith);
       from_one = n.from_one;
-      to_511 = n.to_511;
+      to_511 = (let few = n.to_511 in omega arith);
     }
 
 pub names_it_by : (tree : Tree) (place ino : Ino) (name : List ℕ) → Named tree place ino name → NamesIt (node_at tree place) name ino
@@ -121,7 +122,7 @@ file_removed sectors v tree place ino name is stand all n kind flushed =
     record {
       place_511 = n.place_511;
       from_one = n.from_one;
-      to_511 = n.to_511;
+      to_511 = (let few = n.to_511 in omega arith);
       apart = apart;
       names = n.names;
       here = n.here;
@@ -167,11 +168,11 @@ pub directory_removed : (sectors : List (List ℕ)) (v : Volume) (tree : Tree) (
 directory_removed sectors v tree place ino name is stand all n e =
     let less : Tree = take_name tree place name in
     let apart : ino.0 ≢ place.0 = λ same. no_name (node_at tree ino) e name ino (subst (λ (k : ℕ). NamesIt (node_of tree k) name ino) (sym same) (names_it_by tree place ino name n)) in
-    let within : ino.0 < 512 = (let few = n.to_511 in omega arith) in
+    let within : ino.0 < limits.inodes = (let few = n.to_511 in omega arith) in
     record {
       place_511 = n.place_511;
       from_one = n.from_one;
-      to_511 = n.to_511;
+      to_511 = (let few = n.to_511 in omega arith);
       apart = apart;
       names = n.names;
       here = n.here;

@@ -1,5 +1,6 @@
 -- A removal: a name goes from its directory, and what it stood for has none then.
 use Rattle.std.proofs.Common.{◌≡◌, ◌≢◌, ◌≤◌, ◌<◌, ℕ, false, List, [], set, Option, Some, None, inl, inr, refl, sym, ap, subst, ◌∙◌, arith}
+use Rattle.cal_base.specs.Limits as limits
 use Rattle.std.proofs.lemmas.Bool.{cases_eq, ne_eqb}
 use Rattle.std.proofs.lemmas.List.{get_or-set_other, get_or-set_same}
 use Rattle.std.proofs.lemmas.Option.{get_or_from_slice_get, slice_get_within}
@@ -32,9 +33,9 @@ use Rattle.volume_plan.proofs.Similar.{directory_there, inode_there, node_there}
 
 -- a tree without a name of a directory, in which nothing else is changed but what the name stood for
 pub record Removed (sectors : List (List ℕ)) (v : Volume) (tree less : Tree) (place ino : Ino) (name : List ℕ) : Type 0 where
-  pub place_511 : place.0 ≤ 511
+  pub place_511 : place.0 < limits.inodes
   pub from_one : 1 ≤ ino.0
-  pub to_511 : ino.0 ≤ 511
+  pub to_511 : ino.0 < limits.inodes
   pub apart : ino.0 ≢ place.0
   pub names : Names
   pub here : node_at tree place ≡ Some (Directory names)
@@ -59,10 +60,10 @@ module _ (sectors : List (List ℕ)) (v : Volume) (tree less : Tree) (client : C
   unedited : (n : ℕ) → n ≢ ino.0 → is_edited e.inode n ≡ false
   unedited n apart = ne_eqb ino.0 n (λ same. apart (sym same))
 
-  place_within : place.0 < 512
+  place_within : place.0 < limits.inodes
   place_within = (let p = r.place_511 in omega arith)
 
-  ino_within : ino.0 < 512
+  ino_within : ino.0 < limits.inodes
   ino_within = (let p = r.to_511 in omega arith)
 
   -- the edit keeps the volume's grammar, and takes no block
@@ -74,10 +75,10 @@ module _ (sectors : List (List ℕ)) (v : Volume) (tree less : Tree) (client : C
       record {
         some = inl refl;
         slot = slot;
-        inode = gone_edit v opened ino r.from_one r.to_511 inode;
+        inode = gone_edit v opened ino r.from_one (let few = r.to_511 in omega arith) inode;
         growth = tt;
         leaving = record {
-          directory = record { to_511 = r.place_511; kind = d.kind; stays = unedited place.0 (λ same. r.apart (sym same)) };
+          directory = record { to_511 = (let few = r.place_511 in omega arith); kind = d.kind; stays = unedited place.0 (λ same. r.apart (sym same)) };
           within = p.within;
         };
         entering = tt;
@@ -99,13 +100,13 @@ module _ (sectors : List (List ℕ)) (v : Volume) (tree less : Tree) (client : C
 
   -- each inode stands for what is left
   module _ (others : List (List ℕ)) (keeps : KeepsFiles v sectors others) where
-    bytes_there : (n : ℕ) → n < 512 → SameBytes sectors others (inode_at v.inodes n)
+    bytes_there : (n : ℕ) → n < limits.inodes → SameBytes sectors others (inode_at v.inodes n)
     bytes_there n within = keeps_bytes sectors others v n (inode_at v.inodes n) keeps (inode_there v is n within)
 
-    stood : (n : ℕ) → n < 512 → StandsForNode sectors v tree n (inode_at v.inodes n) (node_of tree n)
+    stood : (n : ℕ) → n < limits.inodes → StandsForNode sectors v tree n (inode_at v.inodes n) (node_of tree n)
     stood n within = node_there sectors v tree is stand (record { 0 = n }) within
 
-    other_stands : (n : ℕ) → n < 512 → n ≢ place.0 → n ≢ ino.0 → StandsForNode others w less n (inode_at v.inodes n) (node_of less n)
+    other_stands : (n : ℕ) → n < limits.inodes → n ≢ place.0 → n ≢ ino.0 → StandsForNode others w less n (inode_at v.inodes n) (node_of less n)
     other_stands n within from gone =
         subst (λ (node : Option Node). StandsForNode others w less n (inode_at v.inodes n) node) (sym (r.others n from gone))
         (stands_later sectors others v w tree less n (inode_at v.inodes n) (node_of tree n) (slots_other n from gone) (r.named n gone) (bytes_there n within) (stood n within))
@@ -125,7 +126,7 @@ module _ (sectors : List (List ℕ)) (v : Volume) (tree less : Tree) (client : C
     kept_there edit n gone s =
         subst (λ (inode : Inode). StandsForNode others w (swept less) n inode (node_of (swept less) n)) (sym (inode_kept v e n (unedited n gone) refl)) (swept_at others w less n (inode_at v.inodes n) s)
 
-    node_stands : IsEdit v e → (is_opened opened ino ≡ false → is_open less ino.0 ≡ false) → (n : ℕ) → n < 512 → StandsForNode others w (swept less) n (inode_at w.inodes n) (node_of (swept less) n)
+    node_stands : IsEdit v e → (is_opened opened ino ≡ false → is_open less ino.0 ≡ false) → (n : ℕ) → n < limits.inodes → StandsForNode others w (swept less) n (inode_at w.inodes n) (node_of (swept less) n)
     node_stands edit shut n within = elim (cases_eq n ino.0) [
       | inl same ↦ subst (λ (m : ℕ). StandsForNode others w (swept less) m (inode_at w.inodes m) (node_of (swept less) m)) (sym same)
           (subst (λ (inode : Inode). StandsForNode others w (swept less) ino.0 inode (node_of (swept less) ino.0)) (sym (inode_put v e (inode_gone v opened ino) is.inode_count edit refl)) (gone_there shut))
@@ -138,6 +139,6 @@ module _ (sectors : List (List ℕ)) (v : Volume) (tree less : Tree) (client : C
     pub removal_stands : IsEdit v e → (is_opened opened ino ≡ false → is_open less ino.0 ≡ false) → StandForNodes others w (swept less)
     removal_stands edit shut = record {
       node = λ n inode there.
-          (let within : n < 512 = (let below = slice_get_within w.inodes n inode there in let count = length-inodes v e in let all = is.inode_count in omega arith) in
+          (let within : n < limits.inodes = (let below = slice_get_within w.inodes n inode there in let count = length-inodes v e in let all = is.inode_count in omega arith) in
           subst (λ (i : Inode). StandsForNode others w (swept less) n i (node_of (swept less) n)) (get_or_from_slice_get w.inodes n inode free_inode there) (node_stands edit shut n within));
     }

@@ -1,5 +1,6 @@
 -- The edit of `rename` keeps a volume within its grammar: where the entry lands.
 use Rattle.std.proofs.Common.{◌≡◌, ◌≢◌, ◌≤◌, ◌<◌, ◌+◌, ◌++◌, ◌∷◌, [], ◌⊎◌, ◌||◌, ℕ, Bool, true, false, List, length, replicate, slice_set, Option, Some, None, IfSome, Result, Ok, Err, is_some, get_or, refl, sym, ap, ◌∙◌, subst, inl, inr, arith, if◌then◌else◌, length-append}
+use Rattle.cal_base.specs.Limits as limits
 use Rattle.std.proofs.lemmas.Bool.{cases_eq, cases_lt}
 use Rattle.std.proofs.lemmas.List.{get_or-set_same, get_or-set_other, length-replicate, length-set, set_past}
 use Rattle.cal_base.specs.declared.identity.ClientId.{ClientId}
@@ -58,7 +59,7 @@ left_keeps directories l number place e there =
 left_other : (v : Volume) (move : Move) (name : List ℕ) → move.from.0 ≢ move.to.0 → slots_without v move name ≡ slots_of v move.to.0
 left_other v move name apart = get_or-set_other v.directories move.from.0 move.to.0 _ [] (λ same. apart (sym same))
 
-left_here : (v : Volume) (move : Move) (name : List ℕ) → IsVolume v → move.from.0 ≡ move.to.0 → move.from.0 ≤ 511 → slots_without v move name ≡ slice_set (slots_of v move.from.0) (place_of (slots_of v move.from.0) name) None
+left_here : (v : Volume) (move : Move) (name : List ℕ) → IsVolume v → move.from.0 ≡ move.to.0 → move.from.0 < limits.inodes → slots_without v move name ≡ slice_set (slots_of v move.from.0) (place_of (slots_of v move.from.0) name) None
 left_here v move name is same below =
     let count = is.directory_count in
     subst (λ (k : ℕ). get_or (with_left v.directories (Some (leaving_of v move.from name))) k [] ≡ slice_set (slots_of v move.from.0) (place_of (slots_of v move.from.0) name) None) same
@@ -149,7 +150,7 @@ adding_edit v client number opened touched from to ino same name goal is r n l f
       entering = record {
         directory = staying v e to is l refl;
         within = lands.within;
-        entry = record { name = named; from_one = entry.from_one; to_511 = entry.to_511 };
+        entry = record { name = named; from_one = entry.from_one; to_511 = (let few = entry.to_511 in omega arith) };
         alone = λ place other there equal. absurd (lands.absent place other there equal);
       };
     }
@@ -181,13 +182,13 @@ replacing_edit v client number opened touched from to ino target same name goal 
     record {
       some = inl refl;
       slot = answered_is v client number Done is r.known r.from_one r.fits tt;
-      inode = gone_edit v opened target is gone.from_one gone.to_511;
+      inode = gone_edit v opened target is gone.from_one (let few = gone.to_511 in omega arith);
       growth = tt;
       leaving = record { directory = staying v e from is n.listed (is_other target.0 from.0 g.from); within = entry_within v from name ino n };
       entering = record {
         directory = staying v e to is l (is_other target.0 to.0 g.to);
         within = left_long (place_of (slots_of v to.0) goal) inside;
-        entry = record { name = named; from_one = entry.from_one; to_511 = entry.to_511 };
+        entry = record { name = named; from_one = entry.from_one; to_511 = (let few = entry.to_511 in omega arith) };
         alone = λ place other there equal. l.sized.directory.distinct place (place_of (slots_of v to.0) goal) other (entry_of goal target) (left_keeps v.directories (leaving_of v from name) to.0 place other there) g.named.there equal;
       };
     }

@@ -1,5 +1,6 @@
 -- The plan of a `rename` that moves an entry fits.
 use Rattle.std.proofs.Common.{◌≡◌, ◌≢◌, ◌<◌, ◌-◌, ℕ, Bool, true, false, nat_lt, List, [], ◌∷◌, length, get_or, Option, Some, None, Result, Ok, Err, ok_or, IfSome, is_none, inl, inr, refl, sym, ap, subst, ◌∙◌, arith, eqb-true, if◌then◌else◌}
+use Rattle.cal_base.specs.Limits as limits
 use Rattle.std.proofs.lemmas.Bool.{cases_lt, le-leb}
 use Rattle.std.specs.FinMap as finite
 use Rattle.cal_base.specs.declared.identity.ClientId.{ClientId}
@@ -69,7 +70,7 @@ moves_apart tree path goal move other m = elim m.goes [
   | inr g ↦ g
 ]
 
-not_full : (names : Names) → is_full_directory (Some (Directory names)) ≡ false → finite.len names < 1024
+not_full : (names : Names) → is_full_directory (Some (Directory names)) ≡ false → finite.len names < limits.directory_entries
 not_full names is = elim (cases_lt (finite.len names) 1024) [
   | inl below ↦ below
   | inr above ↦ (let least = le-leb 1024 (finite.len names) above in absurd (cc))

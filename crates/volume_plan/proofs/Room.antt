@@ -1,5 +1,6 @@
 -- Where a directory has no empty slot and may grow, a change that has its block gets the least free one.
 use Rattle.std.proofs.Common.{◌≡◌, ◌<◌, ◌≤◌, ◌+◌, ◌==◌, ◌&&◌, ◌++◌, ℕ, zero, suc, Bool, true, false, not, nat_lt, List, [], ◌∷◌, length, get_or, replicate, slice_get, Option, Some, None, cond, refl, sym, ap, subst, ◌∙◌, arith, if◌then◌else◌, length-append}
+use Rattle.cal_base.specs.Limits as limits
 use Rattle.std.proofs.lemmas.Bool.{eqb-true, eqb-false, lt-ltb, ltb-true}
 use Rattle.std.proofs.lemmas.List.{length-replicate}
 use Rattle.std.proofs.lemmas.List.Quantifiers.{position-Some}
@@ -49,7 +50,7 @@ and_both false b e = absurd (cc)
 -- a directory is full, and may have a block more
 pub record IsFull (slots : Slots) : Type 0 where
   pub full : first_empty slots ≡ length slots
-  pub fewer : length slots < 1024
+  pub fewer : length slots < limits.directory_entries
 
 pub grows_full : (slots : Slots) → grows slots ≡ true → IsFull slots
 grows_full slots is =
@@ -57,7 +58,7 @@ grows_full slots is =
     record { full = eqb-true (first_empty slots) (length slots) both.0; fewer = ltb-true (length slots) 1024 both.1 }
 
 -- with room for an entry and no need of a block there is an empty slot
-pub grows_not : (slots : Slots) → entry_count slots < 1024 → grows slots ≡ false → first_empty slots < length slots
+pub grows_not : (slots : Slots) → entry_count slots < limits.directory_entries → grows slots ≡ false → first_empty slots < length slots
 grows_not slots few not =
     elim (first_empty slots == length slots) as (λ b. (first_empty slots == length slots) ≡ b → (b && nat_lt (length slots) 1024) ≡ false → first_empty slots < length slots) [
       | true ↦ λ e less. (let full = eqb-true (first_empty slots) (length slots) e in let count = first_empty-full slots full in
@@ -85,7 +86,7 @@ room_by v place slots full some =
     subst (λ (block : Option ℕ). IsReady v place slots (growth_by place block)) (sym at) (record { directory = refl; full = full; free = there; within = first.within })
 
 -- a change that has as many blocks as it needs finds its slots ready
-pub readied : (v : Volume) (place : Ino) (slots : Slots) → entry_count slots < 1024 → nat_lt (free_count v) (blocks_needed slots) ≡ false → IsReady v place slots (growth_of v place slots)
+pub readied : (v : Volume) (place : Ino) (slots : Slots) → entry_count slots < limits.directory_entries → nat_lt (free_count v) (blocks_needed slots) ≡ false → IsReady v place slots (growth_of v place slots)
 readied v place slots few enough =
     elim (grows slots) as (λ b. grows slots ≡ b → nat_lt (free_count v) (if b then 1 else 0) ≡ false → IsReady v place slots (if b then growth_by place (least_block v) else None)) [
       | true ↦ λ e room. room_by v place slots (grows_full slots e) (some_free (free_count v) room)

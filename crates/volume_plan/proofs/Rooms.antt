@@ -1,5 +1,6 @@
 -- Where the tree that a volume shows has room for a name.
 use Rattle.std.proofs.Common.{◌≡◌, ◌<◌, ℕ, Bool, true, false, List, [], ◌∷◌, Option, Some, None, Result, Ok, Err, is_some, nat_le, refl, subst, arith, if◌then◌else◌}
+use Rattle.cal_base.specs.Limits as limits
 use Rattle.std.proofs.lemmas.Bool.Decides.{nat_tests}
 use Rattle.std.specs.FinMap as map
 use Rattle.cal_base.specs.declared.identity.Ino.{Ino}
@@ -34,7 +35,7 @@ listed v number is kind =
 pub record HasRoom (v : Volume) (place : Ino) (name : List ℕ) : Type 0 where
   pub listed : IsListed v place.0
   pub absent : IsAbsent (slots_of v place.0) name
-  pub few : entry_count (slots_of v place.0) < 1024
+  pub few : entry_count (slots_of v place.0) < limits.directory_entries
 
 record Chosen (o : Option Ino) (full : Bool) (ino place : Ino) : Type 0 where
   none : o ≡ None

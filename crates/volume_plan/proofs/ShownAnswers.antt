@@ -5,7 +5,7 @@ use Rattle.tree_law.specs.Answer.{answer, made, moved}
 use Rattle.tree_law.specs.Tree.{Tree}
 use Rattle.tree_law.specs.declared.call.Call.{Call}
 use Rattle.tree_law.specs.declared.call.Call.TheVariants.{Create, Mkdir, Unlink, Rmdir, Rename, Open, Close, Read, Write, Truncate, Stat, Readdir, Fsync}
-use Rattle.volume.specs.Numbers.{is_change}
+use Rattle.tree_law.specs.Change.{is_change}
 use Rattle.volume.specs.Volume.{Volume}
 use Rattle.volume_edit.specs.Edit.{IsVolume}
 use Rattle.volume_plan.specs.Shown.{shown}

@@ -1,5 +1,6 @@
 -- Where a volume stands for a tree, the tree that it shows resolves as that tree.
 use Rattle.std.proofs.Common.{◌≡◌, ◌<◌, ℕ, zero, suc, Bool, true, List, [], ◌∷◌, length, get_or, slice_get, Option, Some, None, Ok, ok_or, inl, inr, refl, sym, ap, subst, ◌∙◌, arith}
+use Rattle.cal_base.specs.Limits as limits
 use Rattle.std.specs.FinMap as map
 use Rattle.std.proofs.lemmas.Option.{slice_get-get_or}
 use Rattle.cal_base.specs.declared.identity.Ino.{Ino}
@@ -38,14 +39,14 @@ shown_there (x ∷ inodes) [] number inode there within = absurd (omega arith)
 shown_there (x ∷ inodes) (slots ∷ directories) zero inode there within = (let one : x ≡ inode = cc in ap (λ (y : Inode). shown_as y.kind y.named slots) one)
 shown_there (x ∷ inodes) (slots ∷ directories) (suc number) inode there within = shown_there inodes directories number inode there (omega arith)
 
-pub inode_there : (v : Volume) → IsVolume v → (number : ℕ) → number < 512 → slice_get v.inodes number ≡ Some (inode_at v.inodes number)
+pub inode_there : (v : Volume) → IsVolume v → (number : ℕ) → number < limits.inodes → slice_get v.inodes number ≡ Some (inode_at v.inodes number)
 inode_there v is number within = (let count = is.inode_count in slice_get-get_or v.inodes number free_inode (omega arith))
 
-pub shown_at : (v : Volume) → IsVolume v → (number : ℕ) → number < 512
+pub shown_at : (v : Volume) → IsVolume v → (number : ℕ) → number < limits.inodes
     → node_at (shown v) (record { 0 = number }) ≡ shown_as (inode_at v.inodes number).kind (inode_at v.inodes number).named (slots_of v number)
 shown_at v is number within = (let count = is.directory_count in shown_there v.inodes v.directories number (inode_at v.inodes number) (inode_there v is number within) (omega arith))
 
-pub node_there : (sectors : List (List ℕ)) (v : Volume) (tree : Tree) → IsVolume v → StandForNodes sectors v tree → (ino : Ino) → ino.0 < 512
+pub node_there : (sectors : List (List ℕ)) (v : Volume) (tree : Tree) → IsVolume v → StandForNodes sectors v tree → (ino : Ino) → ino.0 < limits.inodes
     → StandsForNode sectors v tree ino.0 (inode_at v.inodes ino.0) (node_at tree ino)
 node_there sectors v tree is stand ino within = stand.node ino.0 (inode_at v.inodes ino.0) (inode_there v is ino.0 within)
 
@@ -58,10 +59,10 @@ pub record IsDirectoryAt (v : Volume) (number : ℕ) (names : Names) : Type 0 wh
   pub same : names_of (slots_of v number) ≡ names
 
 -- an inode that is a directory has slots of one
-pub sized_at : (v : Volume) → IsVolume v → (number : ℕ) → number < 512 → (inode_at v.inodes number).kind ≡ Dir → IsSized (inode_at v.inodes number) (slots_of v number)
+pub sized_at : (v : Volume) → IsVolume v → (number : ℕ) → number < limits.inodes → (inode_at v.inodes number).kind ≡ Dir → IsSized (inode_at v.inodes number) (slots_of v number)
 sized_at v is number within kind = subst (λ (k : Kind). HasSlots k (inode_at v.inodes number) (slots_of v number)) kind (is.directories number (inode_at v.inodes number) (inode_there v is number within))
 
-stands_directory : (v : Volume) → IsVolume v → (number : ℕ) → number < 512 → (names : Names) → StandsForDirectory (inode_at v.inodes number) (slots_of v number) names → IsDirectoryAt v number names
+stands_directory : (v : Volume) → IsVolume v → (number : ℕ) → number < limits.inodes → (names : Names) → StandsForDirectory (inode_at v.inodes number) (slots_of v number) names → IsDirectoryAt v number names
 stands_directory v is number within names s =
     let sized = sized_at v is number within s.kind in
     record {
@@ -72,7 +73,7 @@ stands_directory v is number within names s =
           (λ name ino got. names_got (slots_of v number) name ino sized.directory.distinct ((s.entries name ino).0 got));
     }
 
-pub directory_there : (sectors : List (List ℕ)) (v : Volume) (tree : Tree) → IsVolume v → StandForNodes sectors v tree → (ino : Ino) (names : Names) → ino.0 < 512
+pub directory_there : (sectors : List (List ℕ)) (v : Volume) (tree : Tree) → IsVolume v → StandForNodes sectors v tree → (ino : Ino) (names : Names) → ino.0 < limits.inodes
     → node_at tree ino ≡ Some (Directory names) → IsDirectoryAt v ino.0 names
 directory_there sectors v tree is stand ino names within at =
     stands_directory v is ino.0 within names (subst (StandsForNode sectors v tree ino.0 (inode_at v.inodes ino.0)) at (node_there sectors v tree is stand ino within))
@@ -80,7 +81,7 @@ directory_there sectors v tree is stand ino names within at =
 -- ---- the shown tree has the shape of the tree
 
 -- what an inode shows, beside what it stands for, where the tree has a name for it or it is a directory
-shown_alike : (sectors : List (List ℕ)) (v : Volume) (tree : Tree) → IsVolume v → (number : ℕ) → number < 512 → is_named tree number ≡ true → (node : Option Node)
+shown_alike : (sectors : List (List ℕ)) (v : Volume) (tree : Tree) → IsVolume v → (number : ℕ) → number < limits.inodes → is_named tree number ≡ true → (node : Option Node)
     → StandsForNode sectors v tree number (inode_at v.inodes number) node → AreAlike (shown_as (inode_at v.inodes number).kind (inode_at v.inodes number).named (slots_of v number)) node
 shown_alike sectors v tree is number within named (Some (Directory names)) s =
     let there = stands_directory v is number within names s in
@@ -94,7 +95,7 @@ shown_alike sectors v tree is number within named None (inr orphan) =
     subst (λ (k : Kind). AreAlike (shown_as k (inode_at v.inodes number).named (slots_of v number)) None) (sym orphan.0)
     (subst (λ (b : Bool). AreAlike (shown_as File b (slots_of v number)) None) (sym orphan.1) tt)
 
-pub meets_named : (sectors : List (List ℕ)) (v : Volume) (tree : Tree) → IsVolume v → StandForNodes sectors v tree → (ino : Ino) → ino.0 < 512 → is_named tree ino.0 ≡ true → Meet (shown v) tree ino
+pub meets_named : (sectors : List (List ℕ)) (v : Volume) (tree : Tree) → IsVolume v → StandForNodes sectors v tree → (ino : Ino) → ino.0 < limits.inodes → is_named tree ino.0 ≡ true → Meet (shown v) tree ino
 meets_named sectors v tree is stand ino within named = record {
   within = within;
   alike = subst (λ (node : Option Node). AreAlike node (node_at tree ino)) (sym (shown_at v is ino.0 within)) (shown_alike sectors v tree is ino.0 within named (node_at tree ino) (node_there sectors v tree is stand ino within));
@@ -128,7 +129,7 @@ pub record IsEntryThere (v : Volume) (at : ℕ) (name : List ℕ) (ino : Ino) : 
   pub got : map.get (names_of (slots_of v at)) name ≡ Some ino
   pub entry : IsEntry (record { name = name; ino = ino })
 
-pub entry_there : (sectors : List (List ℕ)) (v : Volume) (tree : Tree) → IsVolume v → StandForNodes sectors v tree → (at : Ino) (name : List ℕ) (ino : Ino) → at.0 < 512
+pub entry_there : (sectors : List (List ℕ)) (v : Volume) (tree : Tree) → IsVolume v → StandForNodes sectors v tree → (at : Ino) (name : List ℕ) (ino : Ino) → at.0 < limits.inodes
     → looked_up (node_at tree at) name ≡ Ok ino → IsEntryThere v at.0 name ino
 entry_there sectors v tree is stand at name ino within found = at_node (node_at tree at) refl found
   where

@@ -1,5 +1,6 @@
 -- The number of a change stands in its client's slot, with its reply.
-use Rattle.std.proofs.Common.{◌≡◌, ◌==◌, ◌<◌, ℕ, Bool, true, false, List, length, Option, Some, None, Result, Ok, Err, get_or, slice_set, nat_lt, refl, sym, ap, ◌∙◌, subst, arith, if◌then◌else◌}
+use Rattle.std.proofs.Common.{◌≡◌, ◌==◌, ◌<◌, ℕ, Bool, true, false, List, Option, Some, None, Result, Ok, Err, nat_lt, refl, ap, ◌∙◌, arith, if◌then◌else◌}
+use Rattle.cal_base.specs.Limits as limits
 use Rattle.std.proofs.lemmas.Bool.Decides.{nat_tests}
 use Rattle.std.proofs.lemmas.List.{get_or-set_same}
 use Rattle.cal_base.specs.declared.identity.ClientId.{ClientId}
@@ -7,7 +8,6 @@ use Rattle.cal_base.specs.declared.identity.Ino.{Ino}
 use Rattle.inode.specs.declared.inode.Kind.{Kind}
 use Rattle.inode.specs.declared.inode.Kind.TheVariants.{File, Dir}
 use Rattle.request_log.specs.Judge.{judged}
-use Rattle.request_log.specs.declared.judge.Judged.{Judged}
 use Rattle.request_log.specs.declared.judge.Judged.TheVariants.{Kept, New, Old}
 use Rattle.request_log.specs.declared.slot.Slot.{Slot}
 use Rattle.token_kind.specs.declared.flush.Flush.{Flush}
@@ -17,7 +17,6 @@ use Rattle.tree_law.specs.Resolve.{file_named, last_of, new_place, parent_of, re
 use Rattle.tree_law.specs.declared.call.Call.{Call}
 use Rattle.tree_law.specs.declared.call.Call.TheVariants.{Create, Mkdir, Unlink, Rmdir, Rename, Open, Close, Read, Write, Truncate, Stat, Readdir, Fsync}
 use Rattle.tree_law.specs.declared.rename.Move.{Move}
-use Rattle.tree_law.specs.declared.reply.Reply.{Reply}
 use Rattle.tree_law.specs.declared.reply.Reply.TheVariants.{Done}
 use Rattle.tree_law.specs.declared.reply.Why.{Why}
 use Rattle.volume.specs.Volume.{Volume}
@@ -81,7 +80,7 @@ kept_at s =
     let same : (s.call == s.call) ≡ true = grind (arith, nat_tests) in
     ap (λ (b : Bool). if b then Kept s.reply else (if nat_lt s.call s.call then Old else New)) same
 
-pub number_is_kept : (v : Volume) (client : ClientId) (number : ℕ) (call : Call) (opened : List Ino) → IsVolume v → client.0 < 16
+pub number_is_kept : (v : Volume) (client : ClientId) (number : ℕ) (call : Call) (opened : List Ino) → IsVolume v → client.0 < limits.clients
     → judged (slot_at (edited v (plan v client number call opened).edit).slots client.0) number ≡ Kept (plan v client number call opened).reply
 number_is_kept v client number call opened is known =
     let count = is.slot_count in
@@ -91,7 +90,7 @@ number_is_kept v client number call opened is known =
     ∙ get_or-set_same v.slots client.0 (answered v client number p.reply).slot first_slot (omega arith) in
     ap (λ (s : Slot). judged s number) put ∙ kept_at (answered v client number p.reply).slot
 
-pub flush_is_counted : (v : Volume) (client : ClientId) (flush : Flush) → IsVolume v → client.0 < 16 → (slot_at (edited v (flush_of v client flush)).slots client.0).flush ≡ flush.number
+pub flush_is_counted : (v : Volume) (client : ClientId) (flush : Flush) → IsVolume v → client.0 < limits.clients → (slot_at (edited v (flush_of v client flush)).slots client.0).flush ≡ flush.number
 flush_is_counted v client flush is known =
     let count = is.slot_count in
     ap (λ (s : Slot). s.flush) (get_or-set_same v.slots client.0 _ first_slot (omega arith))

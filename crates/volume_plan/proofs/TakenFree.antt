@@ -30,7 +30,7 @@ use Rattle.volume_plan.proofs.FlushFits.{flush_takes}
 use Rattle.volume_plan.proofs.Gone.{gone_points, nameless_points}
 use Rattle.volume_plan.proofs.Reaping.{names_none}
 use Rattle.volume_plan.specs.Flushing.{CanTake, flush_of}
-use Rattle.volume_plan.specs.Plans.{Plan, short, free_count, growth_by, growth_of, grows, if_room, if_there, inode_gone, is_opened, least_block, least_inode, making, making_at, making_if, moving, moving_by, nameless, plan, removing, removing_at, slot_alone, slots_without, standing}
+use Rattle.volume_plan.specs.Plans.{Plan, short, free_count, growth_by, growth_of, grows, if_room, if_there, inode_gone, is_opened, least_block, least_inode, making, making_at, making_if, moving, moving_by, nameless, plan, removing_at, slot_alone, slots_without, standing}
 use Rattle.volume_plan.specs.Shown.{shown}
 
 -- the block by which a directory grows is free

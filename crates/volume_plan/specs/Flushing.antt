@@ -1,5 +1,7 @@
 -- The plan of a flush: its blocks go to the least free data blocks, and the inode points at them.
 use Rattle.std.specs.Prelude.{◌≡◌, ◌≤◌, ◌<◌, ◌+◌, ◌-◌, ◌^◌, ◌%◌, ◌++◌, ℕ, suc, Bool, true, false, List, [], ◌∷◌, length, replicate, take, slice_index, slice_set, Option, Some, None}
+use Rattle.cal_base.specs.Limits as limits
+use Rattle.shared_disk.specs.Map.{at_block}
 use Rattle.cal_base.specs.declared.identity.ClientId.{ClientId}
 use Rattle.cal_base.specs.Blocks.{block_count}
 use Rattle.inode.specs.declared.inode.Inode.{Inode}
@@ -54,7 +56,7 @@ flushed_inode inode flush blocks = record {
 abbrev pub data_writes : List ℕ → List (ℕ × List ℕ) → List (ℕ × List ℕ)
 data_writes blocks [] = []
 data_writes [] (piece ∷ pieces) = []
-data_writes (block ∷ blocks) (piece ∷ pieces) = (548 + block, piece.1) ∷ data_writes blocks pieces
+data_writes (block ∷ blocks) (piece ∷ pieces) = (at_block block, piece.1) ∷ data_writes blocks pieces
 
 -- a flush that a volume can take: of a file, with as many free blocks as it has pieces
 pub record CanTake (v : Volume) (flush : Flush) : Type 0 where
@@ -71,7 +73,7 @@ inode_flushed v flush = flushed_inode (inode_at v.inodes flush.ino.0) flush (blo
 
 -- a byte over which a flush's pieces are laid: that of the piece, if one holds it, or the one beneath
 abbrev pub byte_over : Option (List ℕ) → ℕ → ℕ → ℕ
-byte_over (Some piece) i beneath = slice_index piece (i % 4096)
+byte_over (Some piece) i beneath = slice_index piece (i % limits.block_size)
 byte_over None i beneath = beneath
 
 -- what a flush of a client alters
@@ -90,7 +92,7 @@ flush_of v client flush = record {
 -- A flush that a client sends: the next one by its number, of a file that it alone wrote, which turns what is
 -- kept of the file into its present bytes. As many blocks are free as it has pieces.
 pub record IsFlushDue (v : Volume) (history : List Entry) (client : ClientId) (flush : Flush) (file : FileState) : Type 0 where
-  pub known : client.0 < 16
+  pub known : client.0 < limits.clients
   pub is : IsFlush flush
   pub next : flush.number ≡ (slot_at v.slots client.0).flush + 1
   pub fits : flush.number < 2 ^ 64

@@ -1,16 +1,15 @@
 -- What a plan promises: with its homes in place the sectors stand for one entry more.
-use Rattle.std.specs.Prelude.{◌≡◌, ◌≤◌, ◌<◌, ◌^◌, ◌∷◌, ℕ, true, false, List, length, Some, ⊤}
+use Rattle.std.specs.Prelude.{◌≡◌, ◌≤◌, ◌<◌, ◌^◌, ◌∷◌, ℕ, true, false, List, length, Some}
+use Rattle.cal_base.specs.Limits as limits
 use Rattle.cal_base.specs.declared.identity.ClientId.{ClientId}
 use Rattle.cal_base.specs.declared.identity.Ino.{Ino}
 use Rattle.shared_disk.specs.Sectors.{written}
+use Rattle.tree_law.specs.Change.{HasPaths, is_change}
 use Rattle.tree_law.specs.Legal.{IsLegal, IsNext, is_flushed_for, tree_of}
-use Rattle.tree_law.specs.Path.{IsPath}
 use Rattle.tree_law.specs.Tree.{descriptor_at, is_purged}
 use Rattle.tree_law.specs.declared.call.Call.{Call}
-use Rattle.tree_law.specs.declared.call.Call.TheVariants.{Create, Mkdir, Unlink, Rmdir, Rename}
 use Rattle.tree_law.specs.declared.descriptor.Descriptor.{Descriptor}
 use Rattle.tree_law.specs.declared.entry.Entry.{Entry}
-use Rattle.volume.specs.Numbers.{is_change}
 use Rattle.volume.specs.Stands.{StandsForHistory}
 use Rattle.volume.specs.Volume.{Volume}
 use Rattle.volume_edit.specs.Edit.{IsEdit, IsVolume, edited}
@@ -20,7 +19,7 @@ use Rattle.volume_plan.specs.Plans.{is_opened}
 
 -- replayed sectors, and a volume within its grammar, that stand for a legal history
 pub record Mounted (sectors : List (List ℕ)) (v : Volume) (history : List Entry) : Type 0 where
-  pub count : length sectors ≡ 2596
+  pub count : length sectors ≡ limits.sectors
   pub volume : IsVolume v
   pub stands : StandsForHistory sectors v history
   pub legal : IsLegal history
@@ -31,19 +30,10 @@ pub record Leads (sectors : List (List ℕ)) (v : Volume) (history : List Entry)
   pub next : IsNext (tree_of history) entry
   pub stands : (homes : List (ℕ × List ℕ)) → AreHomes v e homes → StandsForHistory (written sectors homes) (edited v e) (entry ∷ history)
 
--- the paths of a change are paths
-abbrev pub HasPaths : Call → Type 0
-HasPaths (Create path) = IsPath path
-HasPaths (Mkdir path) = IsPath path
-HasPaths (Unlink path) = IsPath path
-HasPaths (Rmdir path) = IsPath path
-HasPaths (Rename path goal) = IsPath path × IsPath goal
-HasPaths _ = ⊤
-
 -- A change that a server may carry out for a client. `opened` has every file with a descriptor, and no file
 -- that the change removes has a writer.
 pub record IsAsked (history : List Entry) (client : ClientId) (number : ℕ) (call : Call) (opened : List Ino) : Type 0 where
-  pub known : client.0 < 16
+  pub known : client.0 < limits.clients
   pub present : is_purged (tree_of history) client ≡ false
   pub from_one : 1 ≤ number
   pub fits : number < 2 ^ 64

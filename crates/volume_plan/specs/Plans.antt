@@ -1,5 +1,6 @@
 -- The plan of a change, a purge and the reaping of an orphan: what each alters of a volume.
 use Rattle.std.specs.Prelude.{◌==◌, ◌&&◌, ◌||◌, ℕ, Bool, true, false, List, [], ◌∷◌, length, replicate, slice_index_or, count_by, Option, Some, None, Result, Ok, Err, is_none, is_some, nat_lt, option_map, if◌then◌else◌}
+use Rattle.cal_base.specs.Limits as limits
 use Rattle.std.specs.List.{position, list_any}
 use Rattle.std.specs.Cmp.Lexicographic.{pointwise}
 use Rattle.std.specs.Prelude.{nat_eq}
@@ -40,7 +41,7 @@ pub record Plan : Type 0 where
 
 -- an inode of a file or a directory that is just made; a file that lost its last name
 abbrev pub new_inode : Kind → Inode
-new_inode kind = record { kind = kind; named = true; size = 0; blocks = replicate 64 0 }
+new_inode kind = record { kind = kind; named = true; size = 0; blocks = replicate limits.file_blocks 0 }
 
 abbrev pub orphan : Inode → Inode
 orphan inode = record { kind = inode.kind; named = false; size = inode.size; blocks = inode.blocks }
@@ -91,7 +92,7 @@ if_room v client number plan = if nat_lt (free_count v) plan.needed then short v
 
 -- the next entry adds a block: no slot is empty, and there are fewer than 1,024
 abbrev pub grows : Slots → Bool
-grows slots = (first_empty slots == length slots) && nat_lt (length slots) 1024
+grows slots = (first_empty slots == length slots) && nat_lt (length slots) limits.directory_entries
 
 abbrev pub blocks_needed : Slots → ℕ
 blocks_needed slots = if grows slots then 1 else 0

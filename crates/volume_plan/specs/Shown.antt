@@ -1,6 +1,7 @@
 -- The tree that a volume shows: its directories, and its files with a name. It tells nothing of bytes,
 -- descriptors or unflushed writes.
 use Rattle.std.specs.Prelude.{Bool, true, false, List, [], ◌∷◌, Option, Some, None, replicate}
+use Rattle.cal_base.specs.Limits as limits
 use Rattle.std.specs.FinMap as map
 use Rattle.inode.specs.declared.inode.Inode.{Inode}
 use Rattle.inode.specs.declared.inode.Kind.{Kind}
@@ -32,6 +33,6 @@ shown_nodes (inode ∷ inodes) (slots ∷ directories) = shown_as inode.kind ino
 abbrev pub shown : Volume → Tree
 shown v = record {
   nodes = shown_nodes v.inodes v.directories;
-  tables = replicate 16 no_descriptors;
-  purged = replicate 16 false;
+  tables = replicate limits.clients no_descriptors;
+  purged = replicate limits.clients false;
 }

@@ -1,4 +1,5 @@
 ghost use Rattle.std.specs.Prelude.{◌≡◌, ◌↔◌, ◌≤◌, ◌<◌, ◌^◌, ℕ, Contains, List};
+ghost use Rattle.cal_base.specs.Limits as limits;
 ghost use Rattle.cal_base.specs.declared.identity.ClientId.{ClientId};
 ghost use Rattle.cal_base.specs.declared.identity.Ino.{Ino};
 ghost use Rattle.token_kind.specs.declared.flush.Flush.{Flush};
@@ -8,13 +9,13 @@ ghost use Rattle.volume.specs.Volume.{Volume};
 ghost use Rattle.volume_edit.specs.Blocks.{GoToFree, TakesFree};
 ghost use Rattle.volume_edit.specs.Edit.{IsEdit, IsVolume};
 ghost use Rattle.volume_plan.specs.Flushing.{CanTake, blocks_for, data_writes, flush_of};
-ghost use Rattle.volume_plan.specs.Leads.{HasPaths};
+ghost use Rattle.tree_law.specs.Change.{HasPaths};
 ghost use Rattle.volume_plan.specs.Plans.{is_opened, plan, purge_of, reap_of};
 
 /// The plan of each change keeps every volume within its grammar, whether or not that stands for a
 /// history.
 pub fn a_plan_is_an_edit()
-    ensures { (v : Volume) (client : ClientId) (number : ℕ) (call : Call) (opened : List Ino) → IsVolume v → client.0 < 16 → 1 ≤ number → number < 2 ^ 64 → HasPaths call → IsEdit v (plan v client number call opened).edit }
+    ensures { (v : Volume) (client : ClientId) (number : ℕ) (call : Call) (opened : List Ino) → IsVolume v → client.0 < limits.clients → 1 ≤ number → number < 2 ^ 64 → HasPaths call → IsEdit v (plan v client number call opened).edit }
 {}
 
 /// Each plan takes free blocks alone, whether or not the volume stands for a history: that of every

@@ -1,4 +1,5 @@
 ghost use Rattle.std.specs.Prelude.{◌≡◌, ◌/◌, ℕ, List, length};
+ghost use Rattle.cal_base.specs.Limits as limits;
 ghost use Rattle.cal_base.specs.declared.identity.ClientId.{ClientId};
 ghost use Rattle.token_kind.specs.Flush.{piece_at};
 ghost use Rattle.token_kind.specs.declared.flush.Flush.{Flush};
@@ -23,6 +24,6 @@ pub fn a_flush_stands()
 /// pointers before the pieces were written. So its blocks may be read from the sectors as they were, and
 /// the pieces be laid over them.
 pub fn a_flush_reads_with_its_pieces()
-    ensures { (sectors : List (List ℕ)) (v : Volume) (flush : Flush) → length sectors ≡ 2596 → SpellsVolume sectors v → IsVolume v → AreBlocksKept v → CanTake v flush → (i : ℕ)
-        → file_byte (with_pieces sectors v flush) (inode_flushed v flush) i ≡ byte_over (piece_at flush.pieces (i / 4096)) i (file_byte sectors (inode_flushed v flush) i) }
+    ensures { (sectors : List (List ℕ)) (v : Volume) (flush : Flush) → length sectors ≡ limits.sectors → SpellsVolume sectors v → IsVolume v → AreBlocksKept v → CanTake v flush → (i : ℕ)
+        → file_byte (with_pieces sectors v flush) (inode_flushed v flush) i ≡ byte_over (piece_at flush.pieces (i / limits.block_size)) i (file_byte sectors (inode_flushed v flush) i) }
 {}

@@ -1,4 +1,5 @@
 ghost use Rattle.std.specs.Prelude.{◌≡◌, ◌<◌, ℕ, List};
+ghost use Rattle.cal_base.specs.Limits as limits;
 ghost use Rattle.cal_base.specs.declared.identity.ClientId.{ClientId};
 ghost use Rattle.cal_base.specs.declared.identity.Ino.{Ino};
 ghost use Rattle.request_log.specs.Judge.{judged};
@@ -14,7 +15,7 @@ ghost use Rattle.volume_plan.specs.Plans.{plan};
 /// its number is judged as kept, with its reply, by every volume that these sectors spell: it is
 /// committed once, also where another server mounts them.
 pub fn a_number_commits_once()
-    ensures change { (v : Volume) (client : ClientId) (number : ℕ) (call : Call) (opened : List Ino) → IsVolume v → client.0 < 16
+    ensures change { (v : Volume) (client : ClientId) (number : ℕ) (call : Call) (opened : List Ino) → IsVolume v → client.0 < limits.clients
         → judged (slot_at (edited v (plan v client number call opened).edit).slots client.0) number ≡ Kept (plan v client number call opened).reply }
-    ensures flush { (v : Volume) (client : ClientId) (flush : Flush) → IsVolume v → client.0 < 16 → (slot_at (edited v (flush_of v client flush)).slots client.0).flush ≡ flush.number }
+    ensures flush { (v : Volume) (client : ClientId) (flush : Flush) → IsVolume v → client.0 < limits.clients → (slot_at (edited v (flush_of v client flush)).slots client.0).flush ≡ flush.number }
 {}

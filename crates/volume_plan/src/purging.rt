@@ -1,4 +1,5 @@
 ghost use Rattle.std.specs.Prelude.{◌≡◌, ◌<◌, ℕ, false, List, None, Some, slice_get};
+ghost use Rattle.cal_base.specs.Limits as limits;
 ghost use Rattle.cal_base.specs.declared.identity.ClientId.{ClientId};
 ghost use Rattle.cal_base.specs.declared.identity.Ino.{Ino};
 ghost use Rattle.inode.specs.declared.inode.Inode.{Inode};
@@ -19,7 +20,7 @@ ghost use Rattle.volume_plan.specs.Plans.{purge_of, reap_of};
 /// history with the purge. What the client wrote and did not flush is gone, and so are the files that
 /// only the client kept in use.
 pub fn a_purge_stands()
-    ensures { (sectors : List (List ℕ)) (v : Volume) (history : List Entry) (client : ClientId) → Mounted sectors v history → client.0 < 16 → is_purged (tree_of history) client ≡ false
+    ensures { (sectors : List (List ℕ)) (v : Volume) (history : List Entry) (client : ClientId) → Mounted sectors v history → client.0 < limits.clients → is_purged (tree_of history) client ≡ false
         → Leads sectors v history (purge_of v client) (Purge client) }
 {}
 

@@ -7,7 +7,7 @@ ghost use Rattle.tree_law.specs.Resolve.{resolved};
 ghost use Rattle.tree_law.specs.declared.call.Call.{Call};
 ghost use Rattle.tree_law.specs.declared.entry.Entry.{Entry};
 ghost use Rattle.tree_law.specs.declared.request.Want.{Want};
-ghost use Rattle.volume.specs.Numbers.{is_change};
+ghost use Rattle.tree_law.specs.Change.{is_change};
 ghost use Rattle.volume.specs.Volume.{Volume};
 ghost use Rattle.volume_plan.specs.Leads.{Mounted};
 ghost use Rattle.volume_plan.specs.Shown.{shown};

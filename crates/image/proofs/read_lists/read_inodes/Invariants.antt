@@ -1,4 +1,5 @@
 use Rattle.std.proofs.Common.{◌≡◌, ◌≤◌, ◌<◌, Ok, length}
+use Rattle.cal_base.specs.Limits as limits
 use Rattle.image.specs.Damage.{FirstInode}
 use Rattle.image.specs.Mount.{AreInodesRead, MayAllStand, ReadsOnly, Told}
 use Rattle.image.proofs.read_lists.read_inodes.Given as goal
@@ -10,5 +11,5 @@ invariant-loop-number g l = record {
   later : g.D.PortDisk.fault_count l.fn.disk ≤ g.D.PortDisk.fault_count l.disk;
   read : Told (g.D.PortDisk.means l.fn.disk) (λ sectors. AreInodesRead sectors l.number l.inodes);
   stand : MayAllStand l.number l.inodes;
-  count : length l.inodes ≡ 512;
+  count : length l.inodes ≡ limits.inodes;
 }

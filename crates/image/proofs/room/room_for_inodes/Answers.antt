@@ -1,4 +1,5 @@
 use Rattle.std.proofs.Common.{◌≡◌, ◌≤◌, ◌+◌, ◌-◌, ◌∙◌, ℕ, List, [], ◌∷◌, ◌++◌, ap, sym, arith, replicate}
+use Rattle.cal_base.specs.Limits as limits
 use Rattle.std.proofs.lemmas.Grind.{replicate_next}
 use Rattle.inode.specs.declared.inode.Inode.{Inode}
 use Rattle.volume.specs.Format.{root_inode}
@@ -18,5 +19,5 @@ loop-number-preserved c = one_free_more _ _ _ _ (omega arith) c.in_ok-push-2.ens
 pub returns : goal.returns
 unfolding fresh_inodes
 returns c =
-    let last : c.loop-number._number ≡ 512 = omega arith in
+    let last : c.loop-number._number ≡ limits.inodes = omega arith in
     c.loop-number.invariant ∙ ap (λ (n : ℕ). root_inode ∷ replicate (n - 1) free_inode) last

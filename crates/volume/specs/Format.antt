@@ -43,9 +43,9 @@ inode_writes = (at_inode 0, root_sector) ∷ to_each limits.last_inode (at_inode
 abbrev pub format_writes : ℕ → List (ℕ × List ℕ)
 format_writes clients = free_writes ++ (inode_writes ++ (at_head, head_sector clients) ∷ [])
 
--- how many writes a format makes: the gate, the map, the slots, the inodes and the head
+-- how many writes a format makes: the slots, the inodes, and the gate, the map and the head
 abbrev pub format_length : ℕ
-format_length = 531
+format_length = limits.clients + limits.inodes + 3
 
 -- a disk tells the sectors that were there, with the writes of a format, and the gate is closed
 pub record TellsFormatted (before : List (List ℕ)) (clients : ℕ) (disk : Disk) : Type 0 where

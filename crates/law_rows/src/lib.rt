@@ -1,0 +1,9 @@
+//! Short runs of a cluster, each of whose steps keeps the rules: so the rules don't contradict one another.
+//!
+//! - [`a_directory_is_read_twice`]: a client asks for the names of the root, is granted them, answers, and
+//!   answers a second call by itself.
+#![tactic(auto)]
+
+mod rows;
+
+pub use rows::a_directory_is_read_twice;

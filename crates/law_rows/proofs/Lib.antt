@@ -1,2 +1,5 @@
-mod Sent
-mod Steps
+mod Lanes
+mod ReadTwiceSent
+mod ReadTwiceSteps
+mod CreateFileSent
+mod CreateFileSteps

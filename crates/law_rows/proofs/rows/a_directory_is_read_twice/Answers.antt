@@ -1,5 +1,5 @@
-use Rattle.law_rows.proofs.Sent.{delivery0, delivery1, delivery2, delivery3, resend0, resend1, resend2, resend3}
-use Rattle.law_rows.proofs.Steps.{answer0, answer1, answer2, answer3, disk0, disk1, disk2, disk3, entries0, entries1, entries2, entries3, event0, event1, event2, event3, held0, held1, held2, held3, purge0, purge1, purge2, purge3, release0, release1, release2, release3, service0, service1, service2, service3, used0, used1, used2, used3}
+use Rattle.law_rows.proofs.ReadTwiceSent.{delivery0, delivery1, delivery2, delivery3, resend0, resend1, resend2, resend3}
+use Rattle.law_rows.proofs.ReadTwiceSteps.{answer0, answer1, answer2, answer3, disk0, disk1, disk2, disk3, entries0, entries1, entries2, entries3, event0, event1, event2, event3, held0, held1, held2, held3, purge0, purge1, purge2, purge3, release0, release1, release2, release3, service0, service1, service2, service3, used0, used1, used2, used3}
 use Rattle.law_rows.proofs.rows.a_directory_is_read_twice.Goals as goal
 
 pub returns : goal.returns

@@ -24,14 +24,11 @@ use Rattle.cluster_law.specs.ServerRules.{entries_of}
 use Rattle.cluster_law.specs.ServerState.{after_act, after_acts, answered_all, asked_with, hearing, listing_all}
 use Rattle.cluster_law.specs.Sessions.{acked_in, client_view, heard, heard_in, made_in, sent_in, taken, taken_in, told_in}
 use Rattle.cluster_law.specs.Trace.{has_crashed, is_gone, own_sectors, packets, seat, sectors_at, server_of, views}
+use Rattle.law_rows.proofs.Lanes.{no-entries, not-so}
 use Rattle.law_rows.specs.Formatted.{Sectors, setting}
 use Rattle.law_rows.specs.ReadTwice.{answers, answers_again, asked, granted, grants, names, starts}
 
 
-
--- a directory without names has no entries
-no-entries : (e : Names) → e ≡ map.empty → map.entries e ≡ []
-no-entries e empty = nil_from_length _ (sym (map.len-entries e) ∙ ap map.len empty ∙ map.len-empty _ _)
 
 pub event0 : (s : Sectors) → KeepsEvent (setting 1 s) (starts s) []
 unfolding client_at reply_in hears next_of is_covered history empty_tree first_nodes client_after taken owed messages_of heard seat sectors_at own_sectors packets server_of views taken_in heard_in made_in told_in client_view with_items uses_items has_crashed server_at after_acts after_act hearing listing_all blocks shown_nodes names_of clients_below
@@ -192,7 +189,5 @@ service1 s = record { server = record {
   };
 } }
   where
-    not-so : IsTrue false → ⊥
-    not-so e = search rules
     never : true ≡ false → ⊥
     never e = cc

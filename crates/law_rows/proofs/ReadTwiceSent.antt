@@ -19,34 +19,11 @@ use Rattle.cluster_law.specs.ServerRules.{entries_of}
 use Rattle.cluster_law.specs.ServerState.{after_act, after_acts, answered_all, asked_with, hearing, listing_all}
 use Rattle.cluster_law.specs.Sessions.{acked_in, client_view, heard, heard_in, made_in, sent_in, taken, taken_in, told_in}
 use Rattle.cluster_law.specs.Trace.{has_crashed, is_gone, own_sectors, packets, seat, sectors_at, server_of, views}
+use Rattle.law_rows.proofs.Lanes.{not-so, of-client, of-first, of-server}
 use Rattle.law_rows.specs.Formatted.{Sectors, setting}
 use Rattle.law_rows.specs.Packets.{down, up}
 use Rattle.law_rows.specs.ReadTwice.{answers, answers_again, asked, granted, grants, names, starts}
 
-
-not-so : IsTrue false → ⊥
-not-so e = search rules
-
-both : (a b : Bool) → a && b ≡ true → (a ≡ true) × (b ≡ true)
-both true b e = (refl, e)
-both false b e = cc
-
--- a client's step speaks on its own lane alone
-of-client : (P : ℕ → ℕ → Type 0) (view : ℕ → ℕ) (c v : ℕ) → nat_eq 0 c && nat_eq v (view c) ≡ true → view 0 ≡ 1 → P 0 1 → P c v
-of-client P view c v speaking first p =
-    let e = both (nat_eq 0 c) (nat_eq v (view c)) speaking in
-    subst (λ d. nat_eq v (view d) ≡ true → P d v) (eqb-true 0 c e.0) (λ same. subst (λ u. P 0 u) (sym (eqb-true v (view 0) same ∙ first)) p) e.1
-
--- a server's step speaks on all lanes of its view
-of-server : (P : ℕ → Type 0) (v : ℕ) → nat_eq 1 v ≡ true → P 1 → P v
-of-server P v e p = subst P (eqb-true 1 v e) p
-
-of-first : (P : ℕ → Type 0) (c : ℕ) → P 0 → (nat_eq 0 c ≡ false → P c) → P c
-of-first P c first others = by (nat_eq 0 c) refl
-  where
-    by : (b : Bool) → nat_eq 0 c ≡ b → P c
-    by true e = subst P (eqb-true 0 c e) first
-    by false e = others e
 
 -- on each lane on which the step's node speaks go the packets that the rule names
 abbrev Sends : Sectors → Noted → List Noted → Lane → Type 0

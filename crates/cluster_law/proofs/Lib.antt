@@ -5,3 +5,6 @@ mod Acks
 mod Bodies
 mod Ends
 mod Answered
+mod RuledOut
+mod Blocked
+mod Answering

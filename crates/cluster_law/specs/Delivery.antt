@@ -11,7 +11,7 @@ use Rattle.session.specs.declared.packet.Packet.{Packet}
 use Rattle.cluster_law.specs.declared.step.Event.{Event}
 use Rattle.cluster_law.specs.declared.step.Event.TheVariants.{Start, Deliver, Tick, Crash, NewView, Gone, WriteBack}
 use Rattle.cluster_law.specs.Lists.{Each, is_empty, numbered}
-use Rattle.cluster_law.specs.Lanes.{Way, Up, Down, Lane, back, Act, Tells, Commits, Drops}
+use Rattle.cluster_law.specs.Lanes.{Way, Up, Down, Lane, back, Act, Mounts, Tells, Commits, Drops}
 use Rattle.cluster_law.specs.Noted.{Setting, Noted, halts}
 use Rattle.cluster_law.specs.Trace.{given, seat, server_of, own_sectors, is_marked, is_server, is_client}
 use Rattle.cluster_law.specs.Sessions.{is_kind_of, goes_on, made_in, client_view, heard_in, taken_in, acked_in, sent_in}
@@ -81,6 +81,7 @@ Delivers earlier s (WriteBack client fd) = Unit {0}
 -- a message is made in a session that the node then has, of a kind that it may make, and has a spelling
 abbrev pub IsTold : List Noted → Noted → Act → Type 0
 IsTold earlier s (Tells lane message) = IsTrue (speaks earlier s lane) × IsTrue (is_kind_of lane.way message) × IsMessage message
+IsTold earlier s (Mounts volume) = Unit {0}
 IsTold earlier s (Commits commit) = Unit {0}
 IsTold earlier s Drops = Unit {0}
 

@@ -5,6 +5,7 @@ use Rattle.message.specs.declared.message.Message.{Message}
 use Rattle.token_kind.specs.declared.flush.Flush.{Flush}
 use Rattle.tree_law.specs.declared.reply.Reply.{Reply}
 use Rattle.tree_law.specs.declared.request.Request.{Request}
+use Rattle.volume.specs.Volume.{Volume}
 use Rattle.volume_edit.specs.declared.edit.Edit.{Edit}
 
 -- towards the server, or towards the client
@@ -50,9 +51,10 @@ pub record Commit : Type 0 where
   pub edit : Edit
   pub homes : List (ℕ × List ℕ)
 
--- one thing that a node does within a step: a message is made for a lane, a commit is planned, or the old
--- request at the head of the line is dropped
+-- one thing that a node does within a step: a server that boots mounts a volume; a message is made for a lane;
+-- a commit is planned; or the old request at the head of the line is dropped
 pub data Act : Type 0 where
+  Mounts : Volume → Act
   Tells : Lane → Message → Act
   Commits : Commit → Act
   Drops : Act

@@ -1,6 +1,7 @@
 -- A trace: the printed steps with what stands beside them, newest first.
 use Rattle.std.specs.Prelude.{ℕ, Bool, Option, List, [], ◌∷◌, ◌++◌, is_some}
 use Rattle.tree_law.specs.declared.entry.Entry.{Entry}
+use Rattle.volume.specs.Volume.{Volume}
 use Rattle.cluster_law.specs.declared.step.TraceStep.{TraceStep}
 use Rattle.cluster_law.specs.Lanes.{Act}
 
@@ -18,11 +19,12 @@ pub record Noted : Type 0 where
   pub disk : DiskAt
   pub held : Option Entry
 
--- a cluster as the format left it: how many clients it has, how many a server asks at a time, and the disk
+-- a cluster as the format left it: the disk, the volume that it spells, and how many clients a server asks for
+-- their holds at a time
 pub record Setting : Type 0 where
-  pub clients : ℕ
-  pub window : ℕ
   pub first : DiskAt
+  pub volume : Volume
+  pub window : ℕ
 
 -- the printed steps, in order
 unfoldable pub steps_of : List Noted → List TraceStep

@@ -6,7 +6,7 @@ use Rattle.message.specs.declared.message.Message.{Message}
 use Rattle.message.specs.declared.message.Message.TheVariants.{Acquire, Grant, Refuse, Change, Done, Flush, Flushed, Revoke, Release, Ask, Piece, Wait, Admit}
 use Rattle.session.specs.declared.packet.Packet.{Packet}
 use Rattle.cluster_law.specs.Lists.{numbered, only_if}
-use Rattle.cluster_law.specs.Lanes.{Way, Up, Down, Lane, same_lane, back, Act, Tells, Commits, Drops}
+use Rattle.cluster_law.specs.Lanes.{Way, Up, Down, Lane, same_lane, back, Act, Mounts, Tells, Commits, Drops}
 use Rattle.cluster_law.specs.Noted.{Setting, Noted, halts}
 use Rattle.cluster_law.specs.Trace.{given, seat, server_of, own_sectors, is_marked, is_client, is_server}
 
@@ -30,6 +30,7 @@ goes_on lane p = is_lane (lane_of p) lane
 -- the messages that these acts make for a lane, in order
 unfoldable pub told_in : Lane → List Act → List Message
 told_in lane [] = []
+told_in lane (Mounts volume ∷ before) = told_in lane before
 told_in lane (Tells l m ∷ before) = told_in lane before ++ (if same_lane l lane then m ∷ [] else [])
 told_in lane (Commits commit ∷ before) = told_in lane before
 told_in lane (Drops ∷ before) = told_in lane before

@@ -1,0 +1,6 @@
+use Rattle.std.proofs.Common.{◌≡◌}
+use Rattle.cluster_law.proofs.Answering.{own-answer}
+use Rattle.cluster_law.proofs.refusals.a_client_answers_what_is_covered.Goals as goal
+
+pub returns : goal.returns
+returns c = λ sight client old turn answer entries call a outstanding untold. own-answer sight client old turn answer entries call a outstanding untold

@@ -1,0 +1,118 @@
+-- What goes on the lanes as a file is created.
+use Rattle.std.proofs.Common.{◌≡◌, ◌++◌, inl, inr, refl, rules, [], ◌∷◌, true, false, List, Option, Some, None, IsTrue, Bool, ℕ, zero, suc, ◌&&◌, nat_eq, arith, sym, subst, ap, ◌∙◌}
+use Rattle.std.proofs.lemmas.Bool.{eqb-true}
+use Rattle.tree_law.specs.Tree.{empty_tree, first_nodes}
+use Rattle.volume_plan.specs.Shown.{names_of, shown_nodes}
+use Rattle.cluster_law.specs.Blocking.{blocks}
+use Rattle.cluster_law.specs.Book.{with_holds, with_items, revoked_all}
+use Rattle.cluster_law.specs.ClientRules.{KeepsAnswer, KeepsRelease, messages_of, uses_items}
+use Rattle.cluster_law.specs.ClientState.{client_after, hears, reply_in}
+use Rattle.cluster_law.specs.Coverage.{is_covered, next_of}
+use Rattle.cluster_law.specs.Delivery.{IsSpoken, KeepsDelivery, KeepsResend, again, bare, fresh, sent_on, speaks, speaks_way}
+use Rattle.cluster_law.specs.DiskRules.{KeepsDisk, KeepsHeld}
+use Rattle.cluster_law.specs.History.{client_at, final_acts, history, server_at, writes_of_acts}
+use Rattle.cluster_law.specs.Lanes.{Down, Lane, Up, Way}
+use Rattle.cluster_law.specs.Owed.{owed, reported_below, revoking_all}
+use Rattle.cluster_law.specs.Noted.{Noted, halts}
+use Rattle.cluster_law.specs.Rules.{KeepsEntries, KeepsEvent, KeepsPurge, KeepsService, KeepsUse}
+use Rattle.cluster_law.specs.ServerRules.{entries_of}
+use Rattle.cluster_law.specs.ServerState.{after_act, after_acts, answered_all, asked_with, hearing, listing_all}
+use Rattle.cluster_law.specs.Sessions.{acked_in, client_view, heard, heard_in, made_in, sent_in, taken, taken_in, told_in}
+use Rattle.cluster_law.specs.Trace.{has_crashed, is_gone, own_sectors, packets, seat, sectors_at, server_of, views}
+use Rattle.law_rows.proofs.Lanes.{not-so, of-client, of-first, of-server}
+use Rattle.law_rows.specs.Formatted.{Sectors, setting}
+use Rattle.law_rows.specs.Packets.{down, up}
+use Rattle.law_rows.specs.CreateFile.{answers, asked, commits, starts, told}
+
+
+-- on each lane on which the step's node speaks go the packets that the rule names
+abbrev Sends : Sectors → Noted → List Noted → Lane → Type 0
+Sends s step earlier lane = sent_on lane step ≡ again (setting 1 s) lane step earlier ++ fresh (setting 1 s) lane step earlier ++ bare (setting 1 s) lane step earlier
+
+abbrev as_lane : Way → ℕ → ℕ → Lane
+as_lane way c v = record { client = c; view = v; way = way }
+
+by0 : (s : Sectors) (homes : List (ℕ × List ℕ)) (c v : ℕ) (way : Way) → IsTrue (speaks_way way [] (starts s) (as_lane way c v)) → Sends s (starts s) [] (as_lane way c v)
+unfolding acked_in client_view heard heard_in made_in packets seat sectors_at own_sectors sent_in server_of taken taken_in told_in views
+by0 s homes c v Up speaking = of-client (λ c v. Sends s (starts s) [] (as_lane Up c v)) (λ c. client_view c (starts s ∷ [])) c v speaking refl refl
+by0 s homes c v Down speaking = absurd (not-so speaking)
+
+none0 : (s : Sectors) (homes : List (ℕ × List ℕ)) (c v : ℕ) (way : Way) (a b : Bool) → nat_eq 0 c ≡ a → nat_eq 1 v ≡ b → again (setting 1 s) (as_lane way c v) (starts s) [] ≡ []
+unfolding acked_in client_view heard heard_in made_in packets seat sectors_at own_sectors sent_in server_of taken taken_in told_in views
+none0 s homes c v Up true true ea eb = rw ea (rw eb refl)
+none0 s homes c v Up true false ea eb = rw ea (rw eb refl)
+none0 s homes c v Up false b ea eb = rw ea refl
+none0 s homes c v Down true true ea eb = rw ea (rw eb refl)
+none0 s homes c v Down true false ea eb = rw ea (rw eb refl)
+none0 s homes c v Down false b ea eb = rw ea refl
+
+pub delivery0 : (s : Sectors) (homes : List (ℕ × List ℕ)) → KeepsDelivery (setting 1 s) (starts s) []
+unfolding acked_in client_view heard heard_in made_in packets seat sectors_at own_sectors sent_in server_of taken taken_in told_in views
+delivery0 s homes = record {
+  delivered = record {};
+  told = inr ((search rules, search rules, ((omega arith, omega arith), search rules)), record {});
+  sent = λ lane speaking runs. by0 s homes lane.client lane.view lane.way speaking;
+  no_other = (record { lane = up; goes = search rules; speaks_there = search rules }, record {});
+  halted = λ e. absurd (not-so e);
+  no_repeat = λ lane e. none0 s homes lane.client lane.view lane.way (nat_eq 0 lane.client) (nat_eq 1 lane.view) refl refl;
+}
+
+pub resend0 : (s : Sectors) (homes : List (ℕ × List ℕ)) → KeepsResend (setting 1 s) (starts s) []
+resend0 s homes = record { resent = λ lane tick speaking runs. absurd (not-so tick); quiet = λ tick clients. absurd (not-so tick) }
+
+by1 : (s : Sectors) (homes : List (ℕ × List ℕ)) (c v : ℕ) (way : Way) → IsTrue (speaks_way way (starts s ∷ []) (commits s homes) (as_lane way c v)) → Sends s (commits s homes) (starts s ∷ []) (as_lane way c v)
+unfolding acked_in client_view heard heard_in made_in packets seat sectors_at own_sectors sent_in server_of taken taken_in told_in views
+by1 s homes c v Up speaking = absurd (not-so speaking)
+by1 s homes c v Down speaking = of-server (λ v. Sends s (commits s homes) (starts s ∷ []) (as_lane Down c v)) v speaking (of-first (λ c. Sends s (commits s homes) (starts s ∷ []) (as_lane Down c 1)) c refl (λ e. rw e refl))
+
+none1 : (s : Sectors) (homes : List (ℕ × List ℕ)) (c v : ℕ) (way : Way) (a b : Bool) → nat_eq 0 c ≡ a → nat_eq 1 v ≡ b → again (setting 1 s) (as_lane way c v) (commits s homes) (starts s ∷ []) ≡ []
+unfolding acked_in client_view heard heard_in made_in packets seat sectors_at own_sectors sent_in server_of taken taken_in told_in views
+none1 s homes c v Up true true ea eb = rw ea (rw eb refl)
+none1 s homes c v Up true false ea eb = rw ea (rw eb refl)
+none1 s homes c v Up false b ea eb = rw ea refl
+none1 s homes c v Down true true ea eb = rw ea (rw eb refl)
+none1 s homes c v Down true false ea eb = rw ea (rw eb refl)
+none1 s homes c v Down false b ea eb = rw ea refl
+
+pub delivery1 : (s : Sectors) (homes : List (ℕ × List ℕ)) → KeepsDelivery (setting 1 s) (commits s homes) (starts s ∷ [])
+unfolding acked_in client_view heard heard_in made_in packets seat sectors_at own_sectors sent_in server_of taken taken_in told_in views
+delivery1 s homes = record {
+  delivered = refl;
+  told = inr ((search rules, search rules, ((omega arith, omega arith), search rules)), (record {}, record {}));
+  sent = λ lane speaking runs. by1 s homes lane.client lane.view lane.way speaking;
+  no_other = (record { lane = down; goes = search rules; speaks_there = search rules }, record {});
+  halted = λ e. absurd (not-so e);
+  no_repeat = λ lane e. none1 s homes lane.client lane.view lane.way (nat_eq 0 lane.client) (nat_eq 1 lane.view) refl refl;
+}
+
+pub resend1 : (s : Sectors) (homes : List (ℕ × List ℕ)) → KeepsResend (setting 1 s) (commits s homes) (starts s ∷ [])
+resend1 s homes = record { resent = λ lane tick speaking runs. absurd (not-so tick); quiet = λ tick clients. absurd (not-so tick) }
+
+by2 : (s : Sectors) (homes : List (ℕ × List ℕ)) (c v : ℕ) (way : Way) → IsTrue (speaks_way way (commits s homes ∷ starts s ∷ []) (answers s homes) (as_lane way c v)) → Sends s (answers s homes) (commits s homes ∷ starts s ∷ []) (as_lane way c v)
+unfolding acked_in client_view heard heard_in made_in packets seat sectors_at own_sectors sent_in server_of taken taken_in told_in views
+by2 s homes c v Up speaking = of-client (λ c v. Sends s (answers s homes) (commits s homes ∷ starts s ∷ []) (as_lane Up c v)) (λ c. client_view c (answers s homes ∷ (commits s homes ∷ starts s ∷ []))) c v speaking refl refl
+by2 s homes c v Down speaking = absurd (not-so speaking)
+
+none2 : (s : Sectors) (homes : List (ℕ × List ℕ)) (c v : ℕ) (way : Way) (a b : Bool) → nat_eq 0 c ≡ a → nat_eq 1 v ≡ b → again (setting 1 s) (as_lane way c v) (answers s homes) (commits s homes ∷ starts s ∷ []) ≡ []
+unfolding acked_in client_view heard heard_in made_in packets seat sectors_at own_sectors sent_in server_of taken taken_in told_in views
+none2 s homes c v Up true true ea eb = rw ea (rw eb refl)
+none2 s homes c v Up true false ea eb = rw ea (rw eb refl)
+none2 s homes c v Up false b ea eb = rw ea refl
+none2 s homes c v Down true true ea eb = rw ea (rw eb refl)
+none2 s homes c v Down true false ea eb = rw ea (rw eb refl)
+none2 s homes c v Down false b ea eb = rw ea refl
+
+pub delivery2 : (s : Sectors) (homes : List (ℕ × List ℕ)) → KeepsDelivery (setting 1 s) (answers s homes) (commits s homes ∷ starts s ∷ [])
+unfolding acked_in client_view heard heard_in made_in packets seat sectors_at own_sectors sent_in server_of taken taken_in told_in views
+delivery2 s homes = record {
+  delivered = refl;
+  told = inr (record {});
+  sent = λ lane speaking runs. by2 s homes lane.client lane.view lane.way speaking;
+  no_other = (record { lane = up; goes = search rules; speaks_there = search rules }, record {});
+  halted = λ e. absurd (not-so e);
+  no_repeat = λ lane e. none2 s homes lane.client lane.view lane.way (nat_eq 0 lane.client) (nat_eq 1 lane.view) refl refl;
+}
+
+pub resend2 : (s : Sectors) (homes : List (ℕ × List ℕ)) → KeepsResend (setting 1 s) (answers s homes) (commits s homes ∷ starts s ∷ [])
+resend2 s homes = record { resent = λ lane tick speaking runs. absurd (not-so tick); quiet = λ tick clients. absurd (not-so tick) }
+

@@ -1,0 +1,5 @@
+mod Lanes
+mod ReadTwiceSent
+mod ReadTwiceSteps
+mod CreateFileSent
+mod CreateFileSteps

@@ -1,0 +1,4 @@
+pub mod Formatted
+pub mod Packets
+pub mod ReadTwice
+pub mod CreateFile

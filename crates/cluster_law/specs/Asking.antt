@@ -2,6 +2,7 @@
 -- orphan.
 use Rattle.std.specs.Prelude.{◌≡◌, ◌⊎◌, ◌+◌, ◌<◌, ◌≤◌, ◌∷◌, ◌++◌, [], ◌&&◌, ℕ, Bool, true, false, not, nat_eq, nat_lt, nat_le, if◌then◌else◌, List, Option, Some, None, IsTrue, filter, is_none, length, map}
 use Rattle.std.specs.List.{list_any}
+use Rattle.cal_base.specs.Limits.{clients, inodes}
 use Rattle.cal_base.specs.declared.identity.ClientId.{ClientId}
 use Rattle.cal_base.specs.declared.identity.Ino.{Ino}
 use Rattle.inode.specs.declared.inode.Inode.{Inode}
@@ -76,7 +77,7 @@ abbrev pub is_to_admit : ServerState → List Act → ClientId → Bool
 is_to_admit server before client = is_whole (standing_of server.collecting client) && not (was_told client.0 is_admit before)
 
 abbrev pub first_to_admit : ServerState → List Act → Option ClientId
-first_to_admit server before = first_of (filter (is_to_admit server before) (clients_below 16))
+first_to_admit server before = first_of (filter (is_to_admit server before) (clients_below clients))
 
 -- Admits go, in the step in which no client is waited for any longer, to all whose reports are whole, in order
 pub record Admits (was_admitted : Bool) (server : ServerState) (before : List Act) (client : ClientId) : Type 0 where
@@ -100,7 +101,7 @@ abbrev pub is_deserted : ServerState → Ino → Bool
 is_deserted server ino = is_orphan server ino && not (is_open_by_some (table_in server) ino)
 
 abbrev pub deserted : ServerState → Option Ino
-deserted server = first_of (filter (is_deserted server) (inodes_below 512))
+deserted server = first_of (filter (is_deserted server) (inodes_below inodes))
 
 -- the holds of its bytes, and then those of its size
 abbrev pub holders_of : ServerState → Option Ino → List Blocker

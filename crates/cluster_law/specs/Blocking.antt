@@ -1,7 +1,7 @@
 -- What stands in the way of a request.
 use Rattle.std.specs.Prelude.{◌≡◌, ◌+◌, ◌*◌, ◌∷◌, ◌++◌, [], ◌&&◌, ℕ, Bool, true, false, not, nat_eq, nat_le, nat_lt, if◌then◌else◌, List, Option, Some, None, filter, length, map}
 use Rattle.std.specs.List.{list_any}
-use Rattle.cal_base.specs.Limits.{unflushed_blocks}
+use Rattle.cal_base.specs.Limits.{clients, inodes, unflushed_blocks}
 use Rattle.cal_base.specs.declared.identity.ClientId.{ClientId}
 use Rattle.cal_base.specs.declared.identity.Ino.{Ino}
 use Rattle.revocation.specs.Waiting.{own_blockers}
@@ -38,10 +38,10 @@ lacking server client want = filter (λ need. not (is_shown (table_in server) cl
 
 -- the files that someone has open
 abbrev pub is_open_by_some : Table → Ino → Bool
-is_open_by_some table ino = list_any (has_open table ino) (clients_below 16)
+is_open_by_some table ino = list_any (has_open table ino) (clients_below clients)
 
 abbrev pub opened_files : ServerState → List Ino
-opened_files server = filter (is_open_by_some (table_in server)) (inodes_below 512)
+opened_files server = filter (is_open_by_some (table_in server)) (inodes_below inodes)
 
 -- the plan of a change on the volume; the number of the client's last change on it
 abbrev pub planned : ServerState → ClientId → ℕ → Call → Plan

@@ -9,7 +9,7 @@ use Rattle.tree_law.specs.declared.call.Call.{Call}
 use Rattle.tree_law.specs.declared.entry.Entry.{Entry}
 use Rattle.tree_law.specs.declared.entry.Entry.TheVariants.{Call as Called}
 use Rattle.tree_law.specs.declared.reply.Reply.{Reply}
-use Rattle.volume.specs.Numbers.{is_change}
+use Rattle.tree_law.specs.Change.{is_change}
 use Rattle.cluster_law.specs.declared.step.Answer.{Answer}
 use Rattle.cluster_law.specs.Book.{Book, is_passed_over, with_item}
 use Rattle.cluster_law.specs.ClientState.{ClientState, Turn, Idles, Starts, WritesBack, Takes, client_after, hears, reply_in}

@@ -15,7 +15,7 @@ use Rattle.tree_law.specs.declared.reply.Reply.{Reply}
 use Rattle.tree_law.specs.declared.reply.Reply.TheVariants.{Refused}
 use Rattle.tree_law.specs.declared.reply.Why.TheVariants.{NoSpace}
 use Rattle.tree_law.specs.declared.request.Want.{Want}
-use Rattle.volume.specs.Numbers.{is_change}
+use Rattle.tree_law.specs.Change.{is_change}
 use Rattle.cluster_law.specs.Book.{Book, empty_book, flushed, is_flushing, revoked, with_answer, with_flush, with_items}
 use Rattle.cluster_law.specs.Coverage.{next_of}
 use Rattle.cluster_law.specs.Sight.{Sight, file_if_any}

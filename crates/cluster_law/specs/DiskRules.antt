@@ -1,6 +1,7 @@
 -- What a server's step writes to the disk, and why it halts.
 use Rattle.std.specs.Prelude.{◌≡◌, ◌≢◌, ◌⊎◌, ◌+◌, ◌-◌, ◌^◌, ◌<◌, ◌≤◌, ◌∷◌, ◌++◌, [], ◌&&◌, ℕ, Bool, true, false, not, if◌then◌else◌, List, Option, Some, None, IsTrue, length, min, nat_eq, slice_get, take}
 use Rattle.std.specs.Option.{option_or}
+use Rattle.cal_base.specs.Limits.{block_size}
 use Rattle.cal_base.specs.declared.identity.View.{View}
 use Rattle.journal.specs.Commit.{replayed}
 use Rattle.journal.specs.Replay.{replay_writes}
@@ -95,7 +96,7 @@ IsOwn boots view key halt = Unit {0}
 -- a write that failed leaves any bytes in its sector; a read or a fence that failed leaves nothing
 abbrev pub LeftByFailure : List (ℕ × List ℕ) → ℕ → List (ℕ × List ℕ) → Type 0
 LeftByFailure planned made [] = Unit {0}
-LeftByFailure planned made (left ∷ []) = (next : ℕ × List ℕ) × (slice_get planned made ≡ Some next) × (left.0 ≡ next.0) × (length left.1 ≡ 4096)
+LeftByFailure planned made (left ∷ []) = (next : ℕ × List ℕ) × (slice_get planned made ≡ Some next) × (left.0 ≡ next.0) × (length left.1 ≡ block_size)
 LeftByFailure planned made (left ∷ other ∷ more) = ⊥
 
 abbrev pub LeavesSectors : List (ℕ × List ℕ) → DiskAt → DiskAt → List (ℕ × List ℕ) → Option Halt → Type 0

@@ -1,5 +1,6 @@
 -- The law: what each step of a cluster keeps.
 use Rattle.std.specs.Prelude.{◌≡◌, List, [], ◌∷◌, length}
+use Rattle.cal_base.specs.Limits.{sectors}
 use Rattle.journal.specs.Commit.{IsClosed}
 use Rattle.volume.specs.Volume.{SpellsVolume}
 use Rattle.volume_edit.specs.Edit.{IsVolume}
@@ -15,7 +16,7 @@ use Rattle.cluster_law.specs.Rules.{KeepsEntries, KeepsEvent, KeepsPurge, KeepsS
 pub record IsFormatted (w : Setting) : Type 0 where
   pub key : w.first.key ≡ 1
   pub closed : IsClosed w.first.sectors
-  pub count : length w.first.sectors ≡ 2596
+  pub count : length w.first.sectors ≡ sectors
   pub spells : SpellsVolume w.first.sectors w.volume
   pub volume : IsVolume w.volume
 

@@ -1,5 +1,6 @@
 -- What a user may rely on after each step.
 use Rattle.std.specs.Prelude.{◌≡◌, ◌≢◌, ◌⊎◌, ◌+◌, ◌≤◌, ◌<◌, ◌∷◌, ◌++◌, [], ◌&&◌, ◌||◌, ℕ, Bool, true, false, not, nat_eq, nat_le, if◌then◌else◌, List, Option, Some, None, IsTrue, Contains, length}
+use Rattle.cal_base.specs.Limits.{block_size}
 use Rattle.cal_base.specs.declared.identity.ClientId.{ClientId}
 use Rattle.cal_base.specs.declared.identity.Ino.{Ino}
 use Rattle.shared_disk.specs.Sectors.{left_of, written}
@@ -126,7 +127,7 @@ StandsWith sectors (Some entry) past = Stands sectors past ⊎ Stands sectors (e
 
 abbrev pub IsTorn : Option (List ℕ) → Type 0
 IsTorn None = Unit {0}
-IsTorn (Some bytes) = length bytes ≡ 4096
+IsTorn (Some bytes) = length bytes ≡ block_size
 
 -- the sectors where these writes are cut after the first k, with the bytes of a torn one; and the history with
 -- the entries of the commits that were final by then

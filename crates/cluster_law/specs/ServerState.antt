@@ -1,6 +1,7 @@
 -- What a server knows of the view that it serves, and how that goes on with its acts.
 use Rattle.std.specs.Prelude.{◌≡◌, ◌+◌, ◌∷◌, ◌++◌, [], ◌&&◌, ◌||◌, ℕ, Bool, true, false, not, nat_eq, nat_le, nat_lt, if◌then◌else◌, List, Option, Some, None, is_none, is_some, drop, filter, fold, length, map}
 use Rattle.std.specs.List.{list_all, list_any}
+use Rattle.cal_base.specs.Limits.{clients}
 use Rattle.cal_base.specs.declared.identity.ClientId.{ClientId}
 use Rattle.cal_base.specs.declared.identity.Ino.{Ino}
 use Rattle.inode.specs.declared.inode.Kind.{Kind}
@@ -158,7 +159,7 @@ is_next_piece Whole index = false
 is_next_piece Purged index = false
 
 abbrev pub is_apart : Table → ClientId → Token → Bool
-is_apart table client token = list_all (λ other. same_client client other || not (conflict token.hold (held_of table other token.ino token.«class»))) (clients_below 16)
+is_apart table client token = list_all (λ other. same_client client other || not (conflict token.hold (held_of table other token.ino token.«class»))) (clients_below clients)
 
 abbrev pub uses_piece : ServerState → ClientId → PieceRecord → Bool
 uses_piece server client piece = is_next_piece (standing_of server.collecting client) piece.index && list_all (λ hold. is_apart (table_in server) client (judged (last_flush server client) hold)) piece.holds

@@ -5,6 +5,7 @@ use Rattle.cal_base.specs.declared.identity.NodeId.TheVariants.{Client, Server}
 use Rattle.cal_base.specs.declared.identity.ServerId.{ServerId}
 use Rattle.cal_base.specs.declared.identity.ServerId.TheVariants.{A, B}
 use Rattle.journal.specs.Commit.{replayed}
+use Rattle.shared_disk.specs.Map.{at_slot}
 use Rattle.session.specs.declared.packet.Packet.{Packet}
 use Rattle.cluster_law.specs.declared.step.Event.{Event}
 use Rattle.cluster_law.specs.declared.step.Event.TheVariants.{Start, Deliver, Tick, Crash, NewView, Gone, WriteBack}
@@ -107,6 +108,6 @@ or_none (Some sectors) = sectors
 unfoldable pub own_sectors : Setting → ℕ → List Noted → List (List ℕ)
 own_sectors w view trace = or_none (replayed (sectors_at w view trace))
 
--- a client's slot, sector 20 and the client's number, has the mark of its purge in the first byte
+-- a client's slot has the mark of its purge in the first byte
 abbrev pub is_marked : List (List ℕ) → ℕ → Bool
-is_marked sectors client = nat_eq (slice_index (slice_index_or sectors (20 + client) []) 0) 1
+is_marked sectors client = nat_eq (slice_index (slice_index_or sectors (at_slot client) []) 0) 1

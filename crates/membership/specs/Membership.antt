@@ -1,4 +1,5 @@
 use Rattle.std.specs.Prelude.{ℕ, List, Option, None, Some, Result, Ok, Err, if◌then◌else◌, nat_lt, slice_get, slice_set, replicate}
+use Rattle.cal_base.specs.Limits.{clients}
 use Rattle.cal_base.specs.declared.identity.ClientId.{ClientId}
 use Rattle.cal_base.specs.declared.identity.ServerId.{ServerId}
 use Rattle.cal_base.specs.declared.identity.ServerId.TheVariants.{A}
@@ -17,7 +18,7 @@ pub record Membership : Type 0 where
 
 -- as the format leaves it: all clients run, in view 1 of server A
 abbrev pub formed : ℕ → Membership
-formed clients = record { clients = clients; standings = replicate 16 Runs; view = record { 0 = 1 }; server = A }
+formed count = record { clients = count; standings = replicate clients Runs; view = record { 0 = 1 }; server = A }
 
 -- where a client stands; none: there is no such client
 abbrev pub standing_of : Membership → ClientId → Option Standing

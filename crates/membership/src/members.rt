@@ -18,13 +18,14 @@ pub struct Members {
 
 impl Model for Members {
     ghost use Rattle.std.specs.Prelude.{◌≤◌};
+    ghost use Rattle.cal_base.specs.Limits.{clients as most_clients};
     ghost use Rattle.membership.specs.Membership.{Membership};
 
     ghost Value = { Membership };
 
     ghost view = { λ m. record { clients = m.clients; standings = m.standings; view = m.view; server = m.server } };
 
-    ghost invariant = { λ m. (m.clients ≤ 16) × (1 ≤ m.view.0) };
+    ghost invariant = { λ m. (m.clients ≤ most_clients) × (1 ≤ m.view.0) };
 
     ghost inverse = { λ v. record { clients = v.clients; standings = v.standings; view = v.view; server = v.server } };
 }

@@ -1,5 +1,5 @@
-//! Worked runs over the public calls of a volume in memory: what a plan writes, byte for byte, how a file
-//! lives and ends, and what a mount and a read take from a disk.
+//! Worked runs over the public calls of a volume in memory: what a plan writes, byte for byte, a full
+//! volume, and what a mount and a read take from a disk.
 #![tactic(auto)]
 
 #[cfg(test)]

@@ -1,7 +1,8 @@
 ghost use Rattle.std.specs.Prelude.{◌≡◌, ◌≤◌, ◌<◌, true};
-ghost use Rattle.volume.specs.Numbers.{is_change};
+ghost use Rattle.cal_base.specs.Limits as limits;
+ghost use Rattle.tree_law.specs.Change.{is_change};
 
-use cal_base::{ClientId, Ino};
+use cal_base::ClientId;
 use image::{Image, Planned};
 use std::alloc::Global;
 use tree_law::{Call, read_path};
@@ -13,14 +14,13 @@ pub(crate) fn change(
     client: u8,
     number: u64,
     call: &Call,
-    opened: &[Ino],
 ) -> Option<Planned>
-    requires client { client < 16 }
+    requires client { client < limits.clients }
     requires number { 1 ≤ number }
     requires change { is_change call.now ≡ true }
 {
     let planned = image
-        .plan_change(alloc, ClientId(client), number, call, opened)
+        .plan_change(alloc, ClientId(client), number, call, &[])
         .ok()?;
     image.apply(&planned.plan.edit);
     Some(planned)
@@ -33,10 +33,10 @@ pub(crate) fn make_file(
     client: u8,
     path: &[u8],
 ) -> Option<Planned>
-    requires { client < 16 }
+    requires { client < limits.clients }
 {
     let call = Call::Create(read_path(alloc, path).ok()?);
-    change(image, alloc, client, 1, &call, &[])
+    change(image, alloc, client, 1, &call)
 }
 
 /// Whether a home is this sector, with bytes that begin so.

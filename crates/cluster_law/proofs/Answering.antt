@@ -1,5 +1,5 @@
 -- What a client answers, and what it sends.
-use Rattle.std.proofs.Common.{◌≡◌, ◌⊎◌, inl, inr, ◌++◌, ◌+◌, ◌∷◌, [], ℕ, Bool, true, false, not, ◌&&◌, if◌then◌else◌, IsTrue, Option, Some, None, List, refl, sym, ap, subst, ◌∙◌, rules, is_none}
+use Rattle.std.proofs.Common.{◌≡◌, ◌⊎◌, inl, inr, ◌+◌, [], ℕ, Bool, true, false, if◌then◌else◌, IsTrue, Option, Some, None, List, refl, sym, ap, subst, rules, is_none}
 use Rattle.std.specs.Prelude.{IsSome}
 use Rattle.cal_base.specs.declared.identity.Ino.{Ino}
 use Rattle.client_cache.specs.declared.next_step.Next.{Next}
@@ -13,7 +13,7 @@ use Rattle.cluster_law.specs.declared.step.Answer.{Answer}
 use Rattle.cluster_law.specs.Book.{Book, has_room, is_flushing}
 use Rattle.cluster_law.specs.ClientRules.{Answers, answer_with}
 use Rattle.cluster_law.specs.ClientState.{ClientState, Turn, Starts, hears, is_try, own_reply, reply_in, reply_to, request_of, told}
-use Rattle.cluster_law.specs.Coverage.{acquiring, awaits_one, closing, is_covered, is_synced, making_room, next_of, syncing, uncovered}
+use Rattle.cluster_law.specs.Coverage.{acquiring, awaits_one, is_covered, is_synced, making_room, next_of, syncing, uncovered}
 use Rattle.cluster_law.specs.Owed.{asking, owed, sendable, trying}
 use Rattle.cluster_law.specs.Sight.{Sight, closed, synced, altered}
 
@@ -42,6 +42,7 @@ acquires sight book call e = by (awaits_one book (sight.needed call)) refl (has_
         chosen true ino (inr e) = let f = e.1 in cc
         chosen false ino (inl e) = cc
         chosen false ino (inr e) = let f = e.1 in cc
+
     by : (a : Bool) → awaits_one book (sight.needed call) ≡ a → (b : Bool) → has_room sight book call (altered sight call) ≡ b → (o : Option Ino) → altered sight call ≡ o
         → ((if a then Waits else if b then Asks else making_room sight (altered sight call)) ≡ Answers_it) ⊎ ((ino : Ino) × ((if a then Waits else if b then Asks else making_room sight (altered sight call)) ≡ LastClose ino)) → ⊥
     by true ea b eb o eo (inl e) = cc

@@ -1,6 +1,6 @@
 -- What nothing blocks.
-use Rattle.std.proofs.Common.{◌≡◌, ◌⊎◌, inl, inr, ◌<◌, ◌+◌, ◌*◌, ◌++◌, ◌∷◌, [], ℕ, Bool, true, false, not, ◌&&◌, if◌then◌else◌, IsTrue, Option, Some, None, List, length, map, filter, refl, sym, ap, subst, ◌∙◌, arith, rules, Contains, nat_lt, nat_le}
-use Rattle.std.specs.List.{filter_map, flat_map}
+use Rattle.std.proofs.Common.{◌≡◌, ◌<◌, ◌+◌, ◌∷◌, [], ℕ, Bool, true, false, not, ◌&&◌, if◌then◌else◌, IsTrue, Option, Some, None, List, refl, subst, arith, rules, Contains, nat_lt}
+use Rattle.std.specs.List.{filter_map}
 use Rattle.cal_base.specs.declared.identity.ClientId.{ClientId}
 use Rattle.cal_base.specs.declared.identity.Ino.{Ino}
 use Rattle.revocation.specs.Waiting.{asked_at, own_blocker, own_blockers}
@@ -11,8 +11,7 @@ use Rattle.token_kind.specs.declared.hold.Hold.{Hold}
 use Rattle.token_kind.specs.declared.token.Token.{Token}
 use Rattle.token_table.specs.Blockers.{blocker_of, blockers_of, clients_below}
 use Rattle.token_table.specs.Table.{held_of, key_of, same_client}
-use Rattle.tree_law.specs.declared.request.Asked.{Asked}
-use Rattle.tree_law.specs.declared.request.Asked.TheVariants.{Want as Wants, Change as Alters}
+use Rattle.tree_law.specs.declared.request.Asked.TheVariants.{Want as Wants}
 use Rattle.tree_law.specs.declared.request.Want.{Want}
 use Rattle.volume_plan.specs.Plans.{free_count}
 use Rattle.cluster_law.specs.Blocking.{blocks, blocks_for, first_write, holds_for, is_shown, lacking, lacks_space, needed, or_space, reserved}

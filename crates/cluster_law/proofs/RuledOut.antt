@@ -1,5 +1,5 @@
 -- What the records of a server's acts and a client's step rule out.
-use Rattle.std.proofs.Common.{◌≡◌, ◌⊎◌, inl, inr, ◌≤◌, ◌<◌, ◌+◌, ◌*◌, ◌++◌, ◌∷◌, [], ℕ, zero, suc, Bool, true, false, not, ◌&&◌, ◌||◌, if◌then◌else◌, IsTrue, Option, Some, None, List, length, map, filter, refl, sym, ap, subst, ◌∙◌, arith, rules, Contains, true≢false, nat_lt, nat_eq}
+use Rattle.std.proofs.Common.{◌≡◌, ◌⊎◌, inl, inr, ◌<◌, ◌++◌, ◌∷◌, [], ℕ, zero, suc, Bool, true, false, ◌&&◌, if◌then◌else◌, IsTrue, Option, Some, None, List, map, filter, refl, subst, arith, rules, Contains, nat_eq}
 use Rattle.std.specs.List.{filter_map, flat_map, cons_option}
 use Rattle.std.proofs.lemmas.List.Elements.{Contains-get_or, Contains-append_left, Contains-append_right, Contains-append_cases, Contains-push_cases, Contains-push}
 use Rattle.cal_base.specs.declared.identity.ClientId.{ClientId}
@@ -51,6 +51,7 @@ module _ {X Y : Type 0} (f : X → Option Y) where
       apart : (o : Option Y) → cons_option o (filter_map f zs) ≡ [] → (o ≡ None) × (filter_map f zs ≡ [])
       apart None e = (refl, e)
       apart (Some y) e = cc
+
       by : Contains (z ∷ []) x ⊎ Contains zs x → (f z ≡ None) × (filter_map f zs ≡ []) → (Contains zs x → filter_map f zs ≡ [] → f x ≡ None) → f x ≡ None
       by (inl one) p later = here (Contains-push_cases [] z x one) p
         where
@@ -83,6 +84,7 @@ client-below (suc n) c lt = by (nat_eq c.0 n) refl (λ less. client-below n c le
   where
     apart : nat_eq c.0 n ≡ false → c.0 < n
     apart e = let differ = eqb-false c.0 n e in omega (arith, differ)
+
     by : (b : Bool) → nat_eq c.0 n ≡ b → (c.0 < n → Contains (clients_below n) c) → Contains (clients_below n ++ record { 0 = n } ∷ []) c
     by true e later = subst (λ m. Contains (clients_below n ++ record { 0 = m } ∷ []) c) (eqb-true c.0 n e) (Contains-push (clients_below n) c)
     by false e later = Contains-append_left (clients_below n) (record { 0 = n } ∷ []) c (later (apart e))
@@ -95,12 +97,15 @@ module _ {X : Type 0} (test : X → Bool) where
     where
       behind : Contains zs x × (test x ≡ true) → Contains (z ∷ zs) x × (test x ≡ true)
       behind p = (Contains-append_right (z ∷ []) zs x p.0, p.1)
+
       one : test z ≡ true → Contains [] x ⊎ (z ≡ x) → Contains (z ∷ zs) x × (test x ≡ true)
       one t (inl d) = absurd (none_in x d)
       one t (inr same) = subst (λ y. Contains (z ∷ zs) y × (test y ≡ true)) same (Contains-get_or (z ∷ zs) 0 z (omega arith), t)
+
       parted : test z ≡ true → (Contains (filter test zs) x → Contains zs x × (test x ≡ true)) → Contains (z ∷ []) x ⊎ Contains (filter test zs) x → Contains (z ∷ zs) x × (test x ≡ true)
       parted t later (inl first) = one t (Contains-push_cases [] z x first)
       parted t later (inr rest) = behind (later rest)
+
       by : (b : Bool) → test z ≡ b → (Contains (filter test zs) x → Contains zs x × (test x ≡ true)) → Contains (filter test (z ∷ zs)) x → Contains (z ∷ zs) x × (test x ≡ true)
       by true t later c = parted t later (Contains-append_cases (z ∷ []) (filter test zs) x (subst (λ b. Contains (if b then z ∷ filter test zs else filter test zs) x) t c))
       by false t later c = behind (later (subst (λ b. Contains (if b then z ∷ filter test zs else filter test zs) x) t c))

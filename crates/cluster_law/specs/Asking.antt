@@ -1,31 +1,26 @@
 -- Whom a server asks, and for what: for reports while it collects, for holds that block, and for those on an
 -- orphan.
-use Rattle.std.specs.Prelude.{◌≡◌, ◌⊎◌, ◌+◌, ◌<◌, ◌≤◌, ◌∷◌, ◌++◌, [], ◌&&◌, ℕ, Bool, true, false, not, nat_eq, nat_lt, nat_le, if◌then◌else◌, List, Option, Some, None, IsTrue, filter, is_none, length, map}
-use Rattle.std.specs.List.{list_any}
+use Rattle.std.specs.Prelude.{◌≡◌, ◌⊎◌, ◌∷◌, [], ◌&&◌, ℕ, Bool, true, false, not, nat_eq, if◌then◌else◌, List, Option, Some, None, IsTrue, filter}
 use Rattle.cal_base.specs.Limits.{clients, inodes}
 use Rattle.cal_base.specs.declared.identity.ClientId.{ClientId}
 use Rattle.cal_base.specs.declared.identity.Ino.{Ino}
-use Rattle.inode.specs.declared.inode.Inode.{Inode}
 use Rattle.message.specs.declared.message.Message.{Message}
-use Rattle.message.specs.declared.message.Message.TheVariants.{Acquire, Grant, Refuse, Change, Done, Flush, Flushed, Revoke, Release, Ask, Piece, Wait, Admit}
-use Rattle.rebuild.specs.Collecting.{Collecting, missing_of, next_of, standing_of}
+use Rattle.message.specs.declared.message.Message.TheVariants.{Acquire, Change, Flushed, Revoke, Ask, Wait, Admit}
+use Rattle.rebuild.specs.Collecting.{missing_of, next_of, standing_of}
 use Rattle.rebuild.specs.declared.reporting.Reporting.{Reporting}
 use Rattle.rebuild.specs.declared.reporting.Reporting.TheVariants.{Unlisted, Listed, Asked, Whole, Purged}
 use Rattle.revocation.specs.Revokes.{revokes_of}
 use Rattle.token_kind.specs.declared.blocker.Blocker.{Blocker}
-use Rattle.token_kind.specs.declared.«class».Class.{Class}
-use Rattle.token_kind.specs.declared.«class».Class.TheVariants.{Names, Data, Attr, Open}
+use Rattle.token_kind.specs.declared.«class».Class.TheVariants.{Data, Attr}
 use Rattle.token_kind.specs.declared.revoke.Revoke.{Revoke as RevokeRecord}
 use Rattle.token_table.specs.Blockers.{clients_below, touchers_of}
 use Rattle.tree_law.specs.declared.request.Request.{Request}
-use Rattle.volume.specs.Volume.{Volume}
-use Rattle.volume_edit.specs.Edit.{inode_at, slot_at}
-use Rattle.volume_plan.specs.Removals.{IsOrphanOf}
+use Rattle.volume_edit.specs.Edit.{inode_at}
 use Rattle.cluster_law.specs.Blocking.{blocks, is_open_by_some}
 use Rattle.cluster_law.specs.Granting.{head}
-use Rattle.cluster_law.specs.Lanes.{Act, Mounts, Tells, Commits, Drops, Lane}
-use Rattle.cluster_law.specs.Lists.{first_of, inodes_below, is_empty}
-use Rattle.cluster_law.specs.ServerState.{ServerState, is_admitted, is_file, is_present, table_in}
+use Rattle.cluster_law.specs.Lanes.{Act, Mounts, Tells, Commits, Drops}
+use Rattle.cluster_law.specs.Lists.{first_of, inodes_below}
+use Rattle.cluster_law.specs.ServerState.{ServerState, is_admitted, is_file, table_in}
 use Rattle.cluster_law.specs.Sessions.{Taken}
 
 -- a request with this number

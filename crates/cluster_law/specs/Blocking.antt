@@ -1,5 +1,5 @@
 -- What stands in the way of a request.
-use Rattle.std.specs.Prelude.{◌≡◌, ◌+◌, ◌*◌, ◌∷◌, ◌++◌, [], ◌&&◌, ℕ, Bool, true, false, not, nat_eq, nat_le, nat_lt, if◌then◌else◌, List, Option, Some, None, filter, length, map}
+use Rattle.std.specs.Prelude.{◌+◌, ◌*◌, ◌∷◌, ◌++◌, [], ◌&&◌, ℕ, Bool, not, nat_le, nat_lt, if◌then◌else◌, List, filter, length, map}
 use Rattle.std.specs.List.{list_any}
 use Rattle.cal_base.specs.Limits.{clients, inodes, unflushed_blocks}
 use Rattle.cal_base.specs.declared.identity.ClientId.{ClientId}
@@ -7,8 +7,8 @@ use Rattle.cal_base.specs.declared.identity.Ino.{Ino}
 use Rattle.revocation.specs.Waiting.{own_blockers}
 use Rattle.token_kind.specs.Hold.{hold_number}
 use Rattle.token_kind.specs.declared.blocker.Blocker.{Blocker}
-use Rattle.token_kind.specs.declared.«class».Class.TheVariants.{Names, Data, Attr, Open}
-use Rattle.token_kind.specs.declared.hold.Hold.TheVariants.{None as Nothing, Read, Write}
+use Rattle.token_kind.specs.declared.«class».Class.TheVariants.{Data}
+use Rattle.token_kind.specs.declared.hold.Hold.TheVariants.{Read}
 use Rattle.token_kind.specs.declared.token.Token.{Token}
 use Rattle.token_table.specs.Blockers.{blockers_of, clients_below, has_open, touchers_of}
 use Rattle.token_table.specs.Table.{Table, held_of, is_data_write}

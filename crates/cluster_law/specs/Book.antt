@@ -1,6 +1,5 @@
 -- A client's book: what it holds, which flushes it has under way, and what it was asked to give up behind them.
-use Rattle.std.specs.Prelude.{◌+◌, ◌++◌, ◌∷◌, [], ◌&&◌, ◌||◌, ℕ, Bool, true, false, not, nat_eq, nat_le, nat_lt, if◌then◌else◌, List, Option, Some, None, find, filter, is_some, length, map, unwrap_or}
-use Rattle.std.specs.List.{list_all}
+use Rattle.std.specs.Prelude.{◌+◌, ◌++◌, ◌∷◌, [], ◌&&◌, ℕ, Bool, true, false, not, nat_eq, nat_le, nat_lt, if◌then◌else◌, List, Option, Some, None, find, filter, is_some, length, map, unwrap_or}
 use Rattle.std.specs.Map.{lookup}
 use Rattle.cal_base.specs.Limits.{unflushed_blocks}
 use Rattle.cal_base.specs.declared.identity.Ino.{Ino}
@@ -11,9 +10,8 @@ use Rattle.token_kind.specs.declared.«class».Class.{Class}
 use Rattle.token_kind.specs.declared.content.Content.TheVariants.{Nothing as Empty, Names as Entries, Bytes, Size}
 use Rattle.token_kind.specs.declared.content.Content.{Content}
 use Rattle.token_kind.specs.declared.grant_item.GrantItem.{GrantItem}
-use Rattle.token_kind.specs.declared.hold.Hold.TheVariants.{None as Nothing, Read, Write}
+use Rattle.token_kind.specs.declared.hold.Hold.TheVariants.{None as Nothing, Read}
 use Rattle.token_kind.specs.declared.hold.Hold.{Hold}
-use Rattle.token_kind.specs.declared.token.Token.{Token}
 use Rattle.tree_law.specs.declared.call.Call.{Call}
 use Rattle.tree_law.specs.declared.call.Call.TheVariants.{Write as WriteCall, Truncate}
 use Rattle.cluster_law.specs.Lists.{is_empty}

@@ -1,21 +1,21 @@
 -- What carries the promises from step to step, and that a takeover loses nothing.
-use Rattle.std.specs.Prelude.{◌≡◌, ◌≢◌, ◌⊎◌, ◌+◌, ◌≤◌, ◌<◌, ◌∷◌, [], ◌&&◌, ℕ, Bool, true, false, not, nat_lt, if◌then◌else◌, List, Option, Some, None, IsTrue, length}
+use Rattle.std.specs.Prelude.{◌≡◌, ◌≢◌, ◌≤◌, ◌<◌, ◌∷◌, [], ◌&&◌, ℕ, Bool, true, false, not, nat_lt, if◌then◌else◌, List, Option, Some, None}
 use Rattle.cal_base.specs.declared.identity.ClientId.{ClientId}
 use Rattle.cal_base.specs.declared.identity.Ino.{Ino}
 use Rattle.inode.specs.declared.inode.Kind.TheVariants.{Free}
 use Rattle.message.specs.declared.message.Message.{Message}
-use Rattle.message.specs.declared.message.Message.TheVariants.{Acquire, Grant, Refuse, Change, Done, Flush, Flushed, Revoke, Release, Ask, Piece, Wait, Admit}
+use Rattle.message.specs.declared.message.Message.TheVariants.{Grant, Done}
 use Rattle.token_kind.specs.Hold.{conflict, hold_number}
 use Rattle.token_kind.specs.declared.«class».Class.{Class}
-use Rattle.token_kind.specs.declared.«class».Class.TheVariants.{Names, Data, Attr, Open}
+use Rattle.token_kind.specs.declared.«class».Class.TheVariants.{Data, Attr, Open}
 use Rattle.token_kind.specs.declared.content.Content.{Content}
 use Rattle.token_kind.specs.declared.content.Content.TheVariants.{Nothing as Empty, Names as Entries, Bytes, Size}
 use Rattle.token_kind.specs.declared.grant_item.GrantItem.{GrantItem}
 use Rattle.token_kind.specs.declared.hold.Hold.{Hold}
-use Rattle.token_kind.specs.declared.hold.Hold.TheVariants.{None as Nothing, Read, Write}
+use Rattle.token_kind.specs.declared.hold.Hold.TheVariants.{None as Nothing, Write}
 use Rattle.token_table.specs.Table.{Table, held_of}
 use Rattle.tree_law.specs.PartOf.{HasContents, HasEntries, HasSize}
-use Rattle.tree_law.specs.Tree.{Tree, descriptor_at, is_purged, node_at, writer_of}
+use Rattle.tree_law.specs.Tree.{Tree, descriptor_at, node_at, writer_of}
 use Rattle.tree_law.specs.declared.descriptor.Descriptor.{Descriptor}
 use Rattle.tree_law.specs.declared.entry.Entry.{Entry}
 use Rattle.tree_law.specs.declared.entry.Entry.TheVariants.{Call as Called, Flush as FlushedEntry, Purge as PurgedEntry}

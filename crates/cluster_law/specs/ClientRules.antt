@@ -12,7 +12,7 @@ use Rattle.tree_law.specs.declared.reply.Reply.{Reply}
 use Rattle.tree_law.specs.Change.{is_change}
 use Rattle.cluster_law.specs.declared.step.Answer.{Answer}
 use Rattle.cluster_law.specs.Book.{Book, is_passed_over, with_item}
-use Rattle.cluster_law.specs.ClientState.{ClientState, Turn, Idles, Starts, WritesBack, Takes, client_after, hears, reply_in}
+use Rattle.cluster_law.specs.ClientState.{ClientState, Turn, Takes, client_after, hears, reply_in}
 use Rattle.cluster_law.specs.History.{client_at, sight_at, turn}
 use Rattle.cluster_law.specs.Lanes.{Act, Mounts, Tells, Commits, Drops}
 use Rattle.cluster_law.specs.Noted.{Setting, Noted}

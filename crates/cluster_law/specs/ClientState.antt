@@ -1,7 +1,6 @@
 -- What a client knows of itself, and how that goes on with what comes to it.
 use Rattle.std.specs.Prelude.{◌+◌, ◌&&◌, ◌||◌, ℕ, Bool, true, false, not, nat_eq, if◌then◌else◌, Option, Some, None, is_some, option_map}
 use Rattle.std.specs.Option.{option_or}
-use Rattle.cal_base.specs.declared.identity.ClientId.{ClientId}
 use Rattle.cal_base.specs.declared.identity.Ino.{Ino}
 use Rattle.client_cache.specs.declared.next_step.Next.TheVariants.{Answer, LastClose, Waits, Flushes, Asks}
 use Rattle.client_cache.specs.declared.next_step.Next.{Next}

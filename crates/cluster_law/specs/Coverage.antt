@@ -9,7 +9,7 @@ use Rattle.token_kind.specs.declared.«class».Class.TheVariants.{Names, Data, A
 use Rattle.token_kind.specs.declared.«class».Class.{Class}
 use Rattle.token_kind.specs.declared.token.Token.{Token}
 use Rattle.tree_law.specs.declared.call.Call.{Call}
-use Rattle.tree_law.specs.declared.call.Call.TheVariants.{Create, Mkdir, Unlink, Rmdir, Rename, Open as OpenCall, Close, Read as ReadCall, Write as WriteCall, Truncate, Stat, Readdir, Fsync}
+use Rattle.tree_law.specs.declared.call.Call.TheVariants.{Create, Mkdir, Unlink, Rmdir, Rename, Close, Fsync}
 use Rattle.cluster_law.specs.Book.{Book, has_room, is_flushing}
 use Rattle.cluster_law.specs.Sight.{Sight, altered, closed, synced}
 

@@ -2,7 +2,6 @@
 use Rattle.std.specs.Prelude.{◌≡◌, ◌≢◌, ◌⊎◌, ◌+◌, ◌-◌, ◌^◌, ◌<◌, ◌≤◌, ◌∷◌, ◌++◌, [], ◌&&◌, ℕ, Bool, true, false, not, if◌then◌else◌, List, Option, Some, None, IsTrue, length, min, nat_eq, slice_get, take}
 use Rattle.std.specs.Option.{option_or}
 use Rattle.cal_base.specs.Limits.{block_size}
-use Rattle.cal_base.specs.declared.identity.View.{View}
 use Rattle.journal.specs.Commit.{replayed}
 use Rattle.journal.specs.Replay.{replay_writes}
 use Rattle.shared_disk.specs.Sectors.{left_of, written}
@@ -14,7 +13,7 @@ use Rattle.cluster_law.specs.declared.step.Event.TheVariants.{Start, Deliver, Ti
 use Rattle.cluster_law.specs.declared.step.Halt.{Halt}
 use Rattle.cluster_law.specs.declared.step.Halt.TheVariants.{Fenced, Failed, Stopped, Damaged}
 use Rattle.cluster_law.specs.History.{before_acts, is_boot, view_of_step, writes_of_acts, final_place}
-use Rattle.cluster_law.specs.Lanes.{Act, Mounts, Tells, Commits, Drops, Commit}
+use Rattle.cluster_law.specs.Lanes.{Act, Mounts, Tells, Commits, Drops}
 use Rattle.cluster_law.specs.Lists.{first_of, is_empty}
 use Rattle.cluster_law.specs.Noted.{DiskAt, Setting, Noted, disk_now}
 use Rattle.cluster_law.specs.ServerRules.{EachAct, OfView, entry_of}
@@ -25,7 +24,6 @@ use Rattle.cluster_law.specs.Book.{is_held}
 use Rattle.cluster_law.specs.Granting.{head}
 use Rattle.cal_base.specs.declared.identity.ClientId.{ClientId}
 use Rattle.cal_base.specs.declared.identity.Ino.{Ino}
-use Rattle.message.specs.declared.message.Message.{Message}
 use Rattle.message.specs.declared.message.Message.TheVariants.{Grant}
 use Rattle.token_kind.specs.declared.«class».Class.TheVariants.{Data}
 use Rattle.token_kind.specs.declared.token.Token.{Token}

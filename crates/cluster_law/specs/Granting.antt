@@ -1,10 +1,9 @@
 -- What a server may grant, commit and tell, act by act.
-use Rattle.std.specs.Prelude.{◌≡◌, ◌⊎◌, ◌+◌, ◌<◌, ◌≤◌, ◌∷◌, ◌++◌, [], ◌&&◌, ℕ, Bool, true, false, not, nat_eq, nat_lt, nat_le, if◌then◌else◌, List, Option, Some, None, IsTrue, filter, length, map, slice_index}
+use Rattle.std.specs.Prelude.{◌≡◌, ◌+◌, ◌<◌, ◌≤◌, [], ℕ, Bool, true, false, not, List, Option, Some, None, IsTrue, length, map, slice_index}
 use Rattle.cal_base.specs.declared.identity.ClientId.{ClientId}
 use Rattle.cal_base.specs.declared.identity.Ino.{Ino}
 use Rattle.message.specs.declared.message.Message.{Message}
-use Rattle.message.specs.declared.message.Message.TheVariants.{Acquire, Grant, Refuse, Change, Done, Flush, Flushed, Revoke, Release, Ask, Piece, Wait, Admit}
-use Rattle.token_kind.specs.Hold.{hold_number}
+use Rattle.message.specs.declared.message.Message.TheVariants.{Grant, Refuse, Done, Flush, Flushed}
 use Rattle.token_kind.specs.declared.«class».Class.{Class}
 use Rattle.token_kind.specs.declared.«class».Class.TheVariants.{Names, Data, Attr, Open}
 use Rattle.token_kind.specs.declared.content.Content.{Content}
@@ -27,7 +26,7 @@ use Rattle.volume.specs.Volume.{file_byte}
 use Rattle.volume_edit.specs.Edit.{inode_at, slot_at}
 use Rattle.volume_edit.specs.Homes.{AreHomes}
 use Rattle.volume_plan.specs.Flushing.{blocks_for as blocks_to_lay, data_writes, flush_of}
-use Rattle.volume_plan.specs.Plans.{Plan, free_count}
+use Rattle.volume_plan.specs.Plans.{free_count}
 use Rattle.volume_plan.specs.Shown.{shown}
 use Rattle.cluster_law.specs.Blocking.{blocks, blocks_for, lacking, lacks_space, last_change, planned}
 use Rattle.cluster_law.specs.Lanes.{Act, Mounts, Tells, Commits, Drops, Commit, Deed, Changes, Flushes, Purges, Reaps}

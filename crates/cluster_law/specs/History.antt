@@ -1,6 +1,5 @@
 -- The history of a trace, the calls that were started and answered in it, and the states of its nodes.
-use Rattle.std.specs.Prelude.{◌≡◌, ◌+◌, ◌∷◌, ◌++◌, [], ◌&&◌, ◌||◌, ℕ, Bool, true, false, not, nat_eq, nat_lt, if◌then◌else◌, List, Option, Some, None, length}
-use Rattle.cal_base.specs.declared.identity.ClientId.{ClientId}
+use Rattle.std.specs.Prelude.{◌+◌, ◌∷◌, ◌++◌, [], ◌&&◌, ℕ, Bool, true, false, nat_eq, if◌then◌else◌, List, Option, Some, None, length}
 use Rattle.cal_base.specs.declared.identity.NodeId.{NodeId}
 use Rattle.cal_base.specs.declared.identity.NodeId.TheVariants.{Client, Server}
 use Rattle.journal.specs.Commit.{commit_writes}

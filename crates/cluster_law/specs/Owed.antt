@@ -1,21 +1,21 @@
 -- The messages that a client owes in a step, in order.
-use Rattle.std.specs.Prelude.{◌+◌, ◌++◌, ◌∷◌, [], ◌&&◌, ℕ, zero, suc, Bool, true, false, not, if◌then◌else◌, List, Option, Some, None, filter, map, nat_eq}
+use Rattle.std.specs.Prelude.{◌++◌, ◌∷◌, [], ◌&&◌, ℕ, zero, suc, Bool, true, false, not, if◌then◌else◌, List, Option, Some, None, filter, map}
 use Rattle.cal_base.specs.Limits.{inodes}
 use Rattle.cal_base.specs.declared.identity.Ino.{Ino}
 use Rattle.client_cache.specs.declared.next_step.Next.TheVariants.{Answer, LastClose, Waits, Flushes, Asks}
 use Rattle.client_cache.specs.declared.next_step.Next.{Next}
 use Rattle.message.specs.declared.message.Message.{Message}
-use Rattle.message.specs.declared.message.Message.TheVariants.{Acquire, Grant, Refuse, Change, Done, Flush, Flushed, Revoke, Release, Ask, Piece, Wait, Admit}
+use Rattle.message.specs.declared.message.Message.TheVariants.{Flush, Flushed, Revoke, Release, Ask, Piece, Admit}
 use Rattle.report.specs.Report.{pieces_of}
 use Rattle.token_kind.specs.declared.«class».Class.TheVariants.{Names, Data, Attr, Open}
 use Rattle.token_kind.specs.declared.«class».Class.{Class}
-use Rattle.token_kind.specs.declared.hold.Hold.TheVariants.{None as Nothing, Read, Write}
+use Rattle.token_kind.specs.declared.hold.Hold.TheVariants.{None as Nothing, Read}
 use Rattle.token_kind.specs.declared.hold.Hold.{Hold}
 use Rattle.token_kind.specs.declared.reported.Reported.{Reported}
 use Rattle.tree_law.specs.Descriptors.{opened}
 use Rattle.tree_law.specs.declared.call.Call.{Call}
 use Rattle.cluster_law.specs.Book.{Book, Flushing, Remembered, Lowering, Ignores, Remembers, Flushes as FlushesFirst, Lowers, above, asked_or_read, behind, flush_at, flush_numbered, is_flushing, is_held, lowering, next_flush, revoked, without_flush}
-use Rattle.cluster_law.specs.ClientState.{ClientState, Turn, Idles, Starts, WritesBack, Takes, hears, is_try, request_of, told}
+use Rattle.cluster_law.specs.ClientState.{ClientState, Turn, WritesBack, Takes, hears, is_try, request_of}
 use Rattle.cluster_law.specs.Coverage.{next_of}
 use Rattle.cluster_law.specs.Sight.{Sight, file_if_any}
 

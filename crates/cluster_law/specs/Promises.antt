@@ -1,5 +1,5 @@
 -- What a user may rely on after each step.
-use Rattle.std.specs.Prelude.{◌≡◌, ◌≢◌, ◌⊎◌, ◌+◌, ◌≤◌, ◌<◌, ◌∷◌, ◌++◌, [], ◌&&◌, ◌||◌, ℕ, Bool, true, false, not, nat_eq, nat_le, if◌then◌else◌, List, Option, Some, None, IsTrue, Contains, length}
+use Rattle.std.specs.Prelude.{◌≡◌, ◌≢◌, ◌⊎◌, ◌+◌, ◌≤◌, ◌∷◌, [], ◌&&◌, ◌||◌, ℕ, Bool, false, nat_eq, nat_le, if◌then◌else◌, List, Option, Some, None, IsTrue, Contains, length}
 use Rattle.cal_base.specs.Limits.{block_size}
 use Rattle.cal_base.specs.declared.identity.ClientId.{ClientId}
 use Rattle.cal_base.specs.declared.identity.Ino.{Ino}

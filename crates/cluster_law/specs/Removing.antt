@@ -1,5 +1,5 @@
 -- Which client a server purges, and which orphan it frees.
-use Rattle.std.specs.Prelude.{◌≡◌, ◌⊎◌, ◌≤◌, ◌∷◌, [], ◌&&◌, ◌||◌, ℕ, Bool, true, false, not, nat_eq, if◌then◌else◌, List, Option, Some, None, IsTrue, filter, is_none}
+use Rattle.std.specs.Prelude.{◌≡◌, ◌⊎◌, ◌∷◌, [], ◌&&◌, ◌||◌, Bool, true, false, not, List, Option, Some, None, IsTrue, filter, is_none}
 use Rattle.cal_base.specs.declared.identity.ClientId.{ClientId}
 use Rattle.cal_base.specs.declared.identity.Ino.{Ino}
 use Rattle.token_kind.specs.declared.blocker.Blocker.{Blocker}

@@ -1,23 +1,20 @@
 -- The rules that each step of a trace keeps, beside those on packets and on the disk.
-use Rattle.std.specs.Prelude.{◌≡◌, ◌⊎◌, ◌+◌, ◌<◌, ◌∷◌, ◌++◌, [], ◌&&◌, ℕ, Bool, true, false, not, if◌then◌else◌, List, Option, Some, None, IsTrue, is_some}
-use Rattle.cal_base.specs.declared.identity.ClientId.{ClientId}
+use Rattle.std.specs.Prelude.{◌≡◌, ◌<◌, [], ◌&&◌, ℕ, Bool, true, false, not, List, Option, Some, None, IsTrue, is_some}
 use Rattle.cal_base.specs.declared.identity.Ino.{Ino}
 use Rattle.cal_base.specs.declared.identity.NodeId.{NodeId}
 use Rattle.cal_base.specs.declared.identity.NodeId.TheVariants.{Client, Server}
-use Rattle.cal_base.specs.declared.identity.ServerId.{ServerId}
-use Rattle.message.specs.declared.message.Message.{Message}
 use Rattle.message.specs.declared.message.Message.TheVariants.{Done}
 use Rattle.std.specs.Prelude.{Contains}
 use Rattle.tree_law.specs.declared.call.Call.{Call}
 use Rattle.tree_law.specs.declared.entry.Entry.{Entry}
-use Rattle.tree_law.specs.declared.entry.Entry.TheVariants.{Call as Called, Flush as FlushedEntry, Purge as PurgedEntry}
+use Rattle.tree_law.specs.declared.entry.Entry.TheVariants.{Call as Called, Purge as PurgedEntry}
 use Rattle.tree_law.specs.declared.reply.Reply.{Reply}
 use Rattle.cluster_law.specs.declared.step.Event.{Event}
 use Rattle.cluster_law.specs.declared.step.Event.TheVariants.{Start, Deliver, Tick, Crash, NewView, Gone, WriteBack}
 use Rattle.cluster_law.specs.ClientRules.{OfClient, OfOthers, uses_turn}
 use Rattle.cluster_law.specs.Delivery.{is_tick}
 use Rattle.cluster_law.specs.History.{acts_done, before_acts, client_at, history, is_boot, sectors_before, server_at, turn, view_of_step}
-use Rattle.cluster_law.specs.Lanes.{Act, Mounts, Tells, Commits, Drops}
+use Rattle.cluster_law.specs.Lanes.{Act, Tells}
 use Rattle.cluster_law.specs.Lists.{Each, EachAfter, onto}
 use Rattle.cluster_law.specs.Noted.{Setting, Noted, halts}
 use Rattle.cluster_law.specs.ServerRules.{ActsWell, EachAct, EndsWell, HasReserve, MountsWell, Occasion, OfNoView, OfView, entries_of}

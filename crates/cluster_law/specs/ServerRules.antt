@@ -1,10 +1,10 @@
 -- What a server's step keeps: each of its acts where it stands, and what is owed at the end.
-use Rattle.std.specs.Prelude.{◌≡◌, ◌⊎◌, ◌+◌, ◌<◌, ◌≤◌, ◌∷◌, ◌++◌, [], ◌&&◌, ◌||◌, ℕ, Bool, true, false, not, nat_eq, if◌then◌else◌, List, Option, Some, None, IsTrue, is_none, filter}
+use Rattle.std.specs.Prelude.{◌≡◌, ◌≤◌, ◌∷◌, ◌++◌, [], ◌&&◌, ℕ, Bool, true, false, List, Option, Some, None, IsTrue, is_none}
 use Rattle.cal_base.specs.declared.identity.ClientId.{ClientId}
 use Rattle.cal_base.specs.declared.identity.Ino.{Ino}
 use Rattle.message.specs.declared.message.Message.{Message}
-use Rattle.message.specs.declared.message.Message.TheVariants.{Acquire, Grant, Refuse, Change, Done, Flush, Flushed, Revoke, Release, Ask, Piece, Wait, Admit}
-use Rattle.rebuild.specs.Collecting.{missing_of, next_of}
+use Rattle.message.specs.declared.message.Message.TheVariants.{Acquire, Change, Flush}
+use Rattle.rebuild.specs.Collecting.{next_of}
 use Rattle.token_kind.specs.declared.block.Block.{Block}
 use Rattle.token_kind.specs.declared.blocker.Blocker.{Blocker}
 use Rattle.tree_law.specs.declared.entry.Entry.{Entry}
@@ -13,13 +13,13 @@ use Rattle.tree_law.specs.declared.reply.Reply.{Reply}
 use Rattle.tree_law.specs.declared.request.Asked.{Asked}
 use Rattle.tree_law.specs.declared.request.Asked.TheVariants.{Want as Wants, Change as Alters}
 use Rattle.tree_law.specs.declared.request.Request.{Request}
-use Rattle.volume.specs.Volume.{SpellsVolume, Volume}
+use Rattle.volume.specs.Volume.{SpellsVolume}
 use Rattle.volume_edit.specs.Edit.{IsVolume}
 use Rattle.volume_plan.specs.Plans.{free_count}
-use Rattle.cluster_law.specs.Asking.{CollectsWell, RevokesWell, blocks_of, deserted, first_to_admit, holders_of, is_request, next_revoke, is_wait, is_flushed, was_told}
+use Rattle.cluster_law.specs.Asking.{CollectsWell, RevokesWell, blocks_of, deserted, first_to_admit, holders_of, next_revoke, is_wait, is_flushed, was_told}
 use Rattle.cluster_law.specs.Blocking.{blocks, reserved}
 use Rattle.cluster_law.specs.Granting.{CommitsWell, GrantsWell, RefusesWell, head}
-use Rattle.cluster_law.specs.Lanes.{Act, Mounts, Tells, Commits, Drops, Commit, Deed, Changes, Flushes, Purges, Reaps}
+use Rattle.cluster_law.specs.Lanes.{Act, Mounts, Tells, Commits, Drops, Deed, Changes, Flushes, Purges, Reaps}
 use Rattle.cluster_law.specs.Lists.{EachAfter}
 use Rattle.cluster_law.specs.Removing.{HasDone, RemovesWell, due}
 use Rattle.cluster_law.specs.ServerState.{ServerState, after_act, after_acts, is_admitted, uses}

@@ -1,13 +1,13 @@
 -- What a server knows of the view that it serves, and how that goes on with its acts.
-use Rattle.std.specs.Prelude.{◌≡◌, ◌+◌, ◌∷◌, ◌++◌, [], ◌&&◌, ◌||◌, ℕ, Bool, true, false, not, nat_eq, nat_le, nat_lt, if◌then◌else◌, List, Option, Some, None, is_none, is_some, drop, filter, fold, length, map}
-use Rattle.std.specs.List.{list_all, list_any}
+use Rattle.std.specs.Prelude.{◌+◌, ◌∷◌, [], ◌&&◌, ◌||◌, ℕ, Bool, true, false, not, nat_eq, nat_le, if◌then◌else◌, List, Some, is_none, is_some, drop, filter, length, map}
+use Rattle.std.specs.List.{list_all}
 use Rattle.cal_base.specs.Limits.{clients}
 use Rattle.cal_base.specs.declared.identity.ClientId.{ClientId}
 use Rattle.cal_base.specs.declared.identity.Ino.{Ino}
 use Rattle.inode.specs.declared.inode.Kind.{Kind}
 use Rattle.inode.specs.declared.inode.Kind.TheVariants.{Free, File, Dir}
 use Rattle.message.specs.declared.message.Message.{Message}
-use Rattle.message.specs.declared.message.Message.TheVariants.{Acquire, Grant, Refuse, Change, Done, Flush, Flushed, Revoke, Release, Ask, Piece, Wait, Admit}
+use Rattle.message.specs.declared.message.Message.TheVariants.{Acquire, Grant, Refuse, Change, Done, Flush, Revoke, Release, Ask, Piece}
 use Rattle.rebuild.specs.Collecting.{Collecting, asking, listing, missing_of, none_listed, standing_of, with_standing}
 use Rattle.rebuild.specs.Reports.{after_piece, judged}
 use Rattle.rebuild.specs.declared.reporting.Reporting.{Reporting}
@@ -17,7 +17,7 @@ use Rattle.revocation.specs.Waiting.{asked_at, queued, still_asked, without_clie
 use Rattle.shared_disk.specs.Sectors.{written}
 use Rattle.token_kind.specs.Hold.{conflict, hold_number}
 use Rattle.token_kind.specs.declared.«class».Class.{Class}
-use Rattle.token_kind.specs.declared.«class».Class.TheVariants.{Names, Data, Attr, Open}
+use Rattle.token_kind.specs.declared.«class».Class.TheVariants.{Data, Attr}
 use Rattle.token_kind.specs.declared.flush.Flush.{Flush as FlushRecord}
 use Rattle.token_kind.specs.declared.grant_item.GrantItem.{GrantItem}
 use Rattle.token_kind.specs.declared.hold.Hold.{Hold}
@@ -27,7 +27,6 @@ use Rattle.token_table.specs.Blockers.{clients_below}
 use Rattle.token_table.specs.Series.{put_last, with_holds, with_lowered}
 use Rattle.token_table.specs.Table.{Table, held_of, key_of, same_client, same_key}
 use Rattle.token_table.specs.declared.hold_key.HoldKey.{HoldKey}
-use Rattle.tree_law.specs.declared.call.Call.{Call}
 use Rattle.tree_law.specs.declared.request.Asked.{Asked as AskedFor}
 use Rattle.tree_law.specs.declared.request.Asked.TheVariants.{Want as Wants, Change as Alters}
 use Rattle.tree_law.specs.declared.request.Request.{Request}

@@ -10,7 +10,7 @@ use Rattle.tree_law.specs.Idle.{opens_it}
 use Rattle.tree_law.specs.Needs.{needs}
 use Rattle.tree_law.specs.Tree.{Tree, contents_of, node_at, table_of, writer_of}
 use Rattle.tree_law.specs.declared.call.Call.{Call}
-use Rattle.tree_law.specs.declared.call.Call.TheVariants.{Create, Mkdir, Unlink, Rmdir, Rename, Open, Close, Read, Write, Truncate, Stat, Readdir, Fsync}
+use Rattle.tree_law.specs.declared.call.Call.TheVariants.{Close, Write, Truncate, Fsync}
 use Rattle.tree_law.specs.declared.descriptor.Descriptor.{Descriptor}
 use Rattle.tree_law.specs.declared.reply.Reply.{Reply}
 use Rattle.tree_law.specs.declared.reply.Why.{Why}

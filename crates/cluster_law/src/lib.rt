@@ -28,8 +28,9 @@ pub use laws::{
 };
 pub use node::{ClientInput, ClientOutput, ServerHalted, ServerInput, ServerOutput};
 pub use refusals::{
-    a_client_answers_what_is_covered, a_collecting_server_serves_nobody, a_covered_call_needs_no_message,
-    a_grant_comes_after_what_blocks_it, a_number_is_new, each_is_told_once,
-    no_more_are_asked_than_the_window_lets, space_is_refused_last, the_living_are_not_purged,
+    a_client_answers_what_is_covered, a_collecting_server_serves_nobody,
+    a_covered_call_needs_no_message, a_grant_comes_after_what_blocks_it, a_number_is_new,
+    each_is_told_once, no_more_are_asked_than_the_window_lets, space_is_refused_last,
+    the_living_are_not_purged,
 };
 pub use step::{Answer, Event, Halt, SectorWrite, TraceStep};

@@ -1,29 +1,14 @@
 -- What goes on the lanes as a file is created.
-use Rattle.std.proofs.Common.{◌≡◌, ◌++◌, inl, inr, refl, rules, [], ◌∷◌, true, false, List, Option, Some, None, IsTrue, Bool, ℕ, zero, suc, ◌&&◌, nat_eq, arith, sym, subst, ap, ◌∙◌}
-use Rattle.std.proofs.lemmas.Bool.{eqb-true}
-use Rattle.tree_law.specs.Tree.{empty_tree, first_nodes}
-use Rattle.volume_plan.specs.Shown.{names_of, shown_nodes}
-use Rattle.cluster_law.specs.Blocking.{blocks}
-use Rattle.cluster_law.specs.Book.{with_holds, with_items, revoked_all}
-use Rattle.cluster_law.specs.ClientRules.{KeepsAnswer, KeepsRelease, messages_of, uses_items}
-use Rattle.cluster_law.specs.ClientState.{client_after, hears, reply_in}
-use Rattle.cluster_law.specs.Coverage.{is_covered, next_of}
-use Rattle.cluster_law.specs.Delivery.{IsSpoken, KeepsDelivery, KeepsResend, again, bare, fresh, sent_on, speaks, speaks_way}
-use Rattle.cluster_law.specs.DiskRules.{KeepsDisk, KeepsHeld}
-use Rattle.cluster_law.specs.History.{client_at, final_acts, history, server_at, writes_of_acts}
+use Rattle.std.proofs.Common.{◌≡◌, ◌++◌, inr, refl, rules, [], ◌∷◌, true, false, List, IsTrue, Bool, ℕ, nat_eq, arith}
+use Rattle.cluster_law.specs.Delivery.{KeepsDelivery, KeepsResend, again, bare, fresh, sent_on, speaks_way}
 use Rattle.cluster_law.specs.Lanes.{Down, Lane, Up, Way}
-use Rattle.cluster_law.specs.Owed.{owed, reported_below, revoking_all}
-use Rattle.cluster_law.specs.Noted.{Noted, halts}
-use Rattle.cluster_law.specs.Rules.{KeepsEntries, KeepsEvent, KeepsPurge, KeepsService, KeepsUse}
-use Rattle.cluster_law.specs.ServerRules.{entries_of}
-use Rattle.cluster_law.specs.ServerState.{after_act, after_acts, answered_all, asked_with, hearing, listing_all}
+use Rattle.cluster_law.specs.Noted.{Noted}
 use Rattle.cluster_law.specs.Sessions.{acked_in, client_view, heard, heard_in, made_in, sent_in, taken, taken_in, told_in}
-use Rattle.cluster_law.specs.Trace.{has_crashed, is_gone, own_sectors, packets, seat, sectors_at, server_of, views}
+use Rattle.cluster_law.specs.Trace.{own_sectors, packets, seat, sectors_at, server_of, views}
 use Rattle.law_rows.proofs.Lanes.{not-so, of-client, of-first, of-server}
 use Rattle.law_rows.specs.Formatted.{Sectors, setting}
 use Rattle.law_rows.specs.Packets.{down, up}
-use Rattle.law_rows.specs.CreateFile.{answers, asked, commits, starts, told}
-
+use Rattle.law_rows.specs.CreateFile.{answers, commits, starts}
 
 -- on each lane on which the step's node speaks go the packets that the rule names
 abbrev Sends : Sectors → Noted → List Noted → Lane → Type 0
@@ -115,4 +100,3 @@ delivery2 s homes = record {
 
 pub resend2 : (s : Sectors) (homes : List (ℕ × List ℕ)) → KeepsResend (setting 1 s) (answers s homes) (commits s homes ∷ starts s ∷ [])
 resend2 s homes = record { resent = λ lane tick speaking runs. absurd (not-so tick); quiet = λ tick clients. absurd (not-so tick) }
-

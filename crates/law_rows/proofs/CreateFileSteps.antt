@@ -1,10 +1,6 @@
 -- What each step answers, sends and commits as a file is created.
-use Rattle.std.proofs.Common.{◌≡◌, ◌++◌, inl, inr, refl, rules, [], ◌∷◌, true, false, List, Option, Some, None, IsTrue, ℕ, zero, suc, Bool, arith, length, sym, ap, ◌∙◌, ◌<◌}
+use Rattle.std.proofs.Common.{◌≡◌, inl, refl, rules, [], ◌∷◌, true, false, List, Some, ℕ, arith, sym, ap}
 use Rattle.std.specs.FinMap as map
-use Rattle.std.specs.List.{All}
-use Rattle.std.proofs.lemmas.List.{nil_from_length}
-use Rattle.std.proofs.lemmas.List.Elements.{All-nil}
-use Rattle.tree_law.specs.Names.{Names}
 use Rattle.directory.specs.Directory.{first_empty}
 use Rattle.token_table.specs.Blockers.{clients_below}
 use Rattle.cal_base.specs.declared.identity.Ino.{Ino}
@@ -18,27 +14,21 @@ use Rattle.volume_plan.specs.Plans.{Plan, making_at, plan}
 use Rattle.tree_law.specs.Tree.{empty_tree, first_nodes, root}
 use Rattle.volume_plan.specs.Shown.{names_of, shown, shown_nodes}
 use Rattle.cluster_law.specs.Blocking.{blocks}
-use Rattle.cluster_law.specs.Book.{with_holds, with_items, revoked_all}
+use Rattle.cluster_law.specs.Book.{with_items}
 use Rattle.cluster_law.specs.ClientRules.{KeepsAnswer, KeepsRelease, messages_of, uses_items}
 use Rattle.cluster_law.specs.ClientState.{client_after, hears, reply_in}
 use Rattle.cluster_law.specs.Coverage.{is_covered, next_of}
-use Rattle.cluster_law.specs.Delivery.{KeepsDelivery, KeepsResend, speaks, sent_on, again, fresh, bare}
 use Rattle.cluster_law.specs.DiskRules.{KeepsDisk, KeepsHeld}
 use Rattle.cluster_law.specs.History.{client_at, final_acts, history, server_at, writes_of_acts}
-use Rattle.cluster_law.specs.Lanes.{Lane, Up, Down}
-use Rattle.cluster_law.specs.Owed.{owed, reported_below, revoking_all}
-use Rattle.tree_law.specs.declared.request.Want.TheVariants.{Readdir as WantsNames}
+use Rattle.cluster_law.specs.Owed.{owed}
 use Rattle.cluster_law.specs.Rules.{KeepsEntries, KeepsEvent, KeepsPurge, KeepsService, KeepsUse}
 use Rattle.cluster_law.specs.ServerRules.{entries_of}
-use Rattle.cluster_law.specs.ServerState.{after_act, after_acts, answered_all, asked_with, hearing, listing_all}
-use Rattle.cluster_law.specs.Sessions.{acked_in, client_view, heard, heard_in, made_in, sent_in, taken, taken_in, told_in}
-use Rattle.cluster_law.specs.Trace.{has_crashed, is_gone, own_sectors, packets, seat, sectors_at, server_of, views}
-use Rattle.law_rows.proofs.Lanes.{no-entries, not-so}
+use Rattle.cluster_law.specs.ServerState.{after_act, after_acts, hearing, listing_all}
+use Rattle.cluster_law.specs.Sessions.{client_view, heard, heard_in, made_in, taken, taken_in, told_in}
+use Rattle.cluster_law.specs.Trace.{has_crashed, own_sectors, packets, seat, sectors_at, server_of, views}
+use Rattle.law_rows.proofs.Lanes.{not-so}
 use Rattle.law_rows.specs.Formatted.{Sectors, formatted, setting}
-use Rattle.law_rows.specs.CreateFile.{a, answers, commit, commits, create, create_request, creation, entry, first, made, starts}
-
-
-
+use Rattle.law_rows.specs.CreateFile.{a, answers, commits, create, creation, entry, first, made, starts}
 
 -- the file can be made in the root, which has no names
 place-is : new_place (shown (formatted 1)) (a ∷ []) ≡ Ok root
@@ -151,44 +141,55 @@ service2 s homes = record { server = record {} }
 
 pub service1 : (s : Sectors) (homes : List (ℕ × List ℕ)) → AreHomes (formatted 1) creation homes → KeepsService (setting 1 s) (commits s homes) (starts s ∷ [])
 unfolding client_at reply_in hears next_of is_covered history empty_tree first_nodes client_after taken owed messages_of heard seat sectors_at own_sectors packets server_of views taken_in heard_in made_in told_in client_view with_items uses_items has_crashed server_at after_acts after_act hearing listing_all blocks shown_nodes names_of clients_below first_empty
-service1 s homes spelled = record { server = record {
-  mounts = record {};
-  acts = ((record {}, record {
-    grants = record {};
-    refuses = record {};
-    commits = (record {
-      call = create;
-      admitted = refl;
-      head_is = refl;
-      call_is = refl;
-      new = omega arith;
-      unblocked = rw (map.get-empty _ a) (rw (map.len-empty _ _) refl);
-      reply_is = sym (ap (λ p. p.reply) (plan-is []));
-      new_ino_is = sym (ap (λ p. p.new_ino) (plan-is []));
-      edit_is = sym (ap (λ p. p.edit) (plan-is []));
-      lays_none = refl;
-    }, spelled);
-    collects = record {};
-    revokes = record {};
-    removes = record {};
+service1 s homes spelled = record {
+  server = record {
+    mounts = record {};
+    acts = (
+      (
+        record {},
+        record {
+          grants = record {};
+          refuses = record {};
+          commits = (
+            record {
+              call = create;
+              admitted = refl;
+              head_is = refl;
+              call_is = refl;
+              new = omega arith;
+              unblocked = rw (map.get-empty _ a) (rw (map.len-empty _ _) refl);
+              reply_is = sym (ap (λ p. p.reply) (plan-is []));
+              new_ino_is = sym (ap (λ p. p.new_ino) (plan-is []));
+              edit_is = sym (ap (λ p. p.edit) (plan-is []));
+              lays_none = refl;
+            },
+            spelled,
+          );
+          collects = record {};
+          revokes = record {};
+          removes = record {};
+          reserve = λ admitted. omega arith;
+        },
+      ),
+      record {
+        grants = record {};
+        refuses = record {};
+        commits = record { call = create; admitted = refl; head_is = refl; number_is = refl; reply_is = refl };
+        collects = record {};
+        revokes = record {};
+        removes = record {};
+        reserve = λ admitted. omega arith;
+      },
+    );
     reserve = λ admitted. omega arith;
-  }), record {
-    grants = record {};
-    refuses = record {};
-    commits = record { call = create; admitted = refl; head_is = refl; number_is = refl; reply_is = refl };
-    collects = record {};
-    revokes = record {};
-    removes = record {};
-    reserve = λ admitted. omega arith;
-  });
-  reserve = λ admitted. omega arith;
-  ends = record {
-    taken = λ used admitted. absurd (never admitted);
-    collected = record { asked = refl; admitted = λ was now. refl };
-    line = record { named_is = refl; asked = refl };
-    removed = λ tick. absurd (not-so tick);
+    ends = record {
+      taken = λ used admitted. absurd (never admitted);
+      collected = record { asked = refl; admitted = λ was now. refl };
+      line = record { named_is = refl; asked = refl };
+      removed = λ tick. absurd (not-so tick);
+    };
   };
-} }
+}
   where
     never : true ≡ false → ⊥
     never e = cc

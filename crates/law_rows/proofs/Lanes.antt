@@ -1,5 +1,5 @@
 -- On which lanes a step speaks, and a directory without names.
-use Rattle.std.proofs.Common.{◌≡◌, ◌&&◌, ◌∙◌, [], Bool, true, false, IsTrue, List, ℕ, ap, length, nat_eq, refl, rules, subst, sym}
+use Rattle.std.proofs.Common.{◌≡◌, ◌&&◌, ◌∙◌, [], Bool, true, false, IsTrue, ℕ, ap, nat_eq, refl, rules, subst, sym}
 use Rattle.std.specs.FinMap as map
 use Rattle.std.proofs.lemmas.Bool.{eqb-true}
 use Rattle.std.proofs.lemmas.List.{nil_from_length}
@@ -32,4 +32,3 @@ of-first P c first others = by (nat_eq 0 c) refl
 -- a directory without names has no entries
 pub no-entries : (e : Names) → e ≡ map.empty → map.entries e ≡ []
 no-entries e empty = nil_from_length _ (sym (map.len-entries e) ∙ ap map.len empty ∙ map.len-empty _ _)
-

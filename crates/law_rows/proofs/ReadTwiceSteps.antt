@@ -1,34 +1,27 @@
 -- What each step answers, sends and grants.
-use Rattle.std.proofs.Common.{◌≡◌, ◌++◌, inl, inr, refl, rules, [], ◌∷◌, true, false, List, Option, Some, None, IsTrue, ℕ, zero, suc, Bool, arith, length, sym, ap, ◌∙◌, ◌<◌}
+use Rattle.std.proofs.Common.{◌≡◌, inl, refl, rules, [], ◌∷◌, true, false, arith}
 use Rattle.std.specs.FinMap as map
-use Rattle.std.specs.List.{All}
-use Rattle.std.proofs.lemmas.List.{nil_from_length}
 use Rattle.std.proofs.lemmas.List.Elements.{All-nil}
-use Rattle.tree_law.specs.Names.{Names}
 use Rattle.token_table.specs.Blockers.{clients_below}
 use Rattle.tree_law.specs.Tree.{empty_tree, first_nodes}
 use Rattle.volume_plan.specs.Shown.{names_of, shown_nodes}
 use Rattle.cluster_law.specs.Blocking.{blocks}
-use Rattle.cluster_law.specs.Book.{with_holds, with_items, revoked_all}
+use Rattle.cluster_law.specs.Book.{with_items}
 use Rattle.cluster_law.specs.ClientRules.{KeepsAnswer, KeepsRelease, messages_of, uses_items}
 use Rattle.cluster_law.specs.ClientState.{client_after, hears, reply_in}
 use Rattle.cluster_law.specs.Coverage.{is_covered, next_of}
-use Rattle.cluster_law.specs.Delivery.{KeepsDelivery, KeepsResend, speaks, sent_on, again, fresh, bare}
 use Rattle.cluster_law.specs.DiskRules.{KeepsDisk, KeepsHeld}
 use Rattle.cluster_law.specs.History.{client_at, final_acts, history, server_at, writes_of_acts}
-use Rattle.cluster_law.specs.Lanes.{Lane, Up, Down}
-use Rattle.cluster_law.specs.Owed.{owed, reported_below, revoking_all}
+use Rattle.cluster_law.specs.Owed.{owed}
 use Rattle.tree_law.specs.declared.request.Want.TheVariants.{Readdir as WantsNames}
 use Rattle.cluster_law.specs.Rules.{KeepsEntries, KeepsEvent, KeepsPurge, KeepsService, KeepsUse}
 use Rattle.cluster_law.specs.ServerRules.{entries_of}
-use Rattle.cluster_law.specs.ServerState.{after_act, after_acts, answered_all, asked_with, hearing, listing_all}
-use Rattle.cluster_law.specs.Sessions.{acked_in, client_view, heard, heard_in, made_in, sent_in, taken, taken_in, told_in}
-use Rattle.cluster_law.specs.Trace.{has_crashed, is_gone, own_sectors, packets, seat, sectors_at, server_of, views}
+use Rattle.cluster_law.specs.ServerState.{after_act, after_acts, hearing, listing_all}
+use Rattle.cluster_law.specs.Sessions.{client_view, heard, heard_in, made_in, taken, taken_in, told_in}
+use Rattle.cluster_law.specs.Trace.{has_crashed, own_sectors, packets, seat, sectors_at, server_of, views}
 use Rattle.law_rows.proofs.Lanes.{no-entries, not-so}
 use Rattle.law_rows.specs.Formatted.{Sectors, setting}
-use Rattle.law_rows.specs.ReadTwice.{answers, answers_again, asked, granted, grants, names, starts}
-
-
+use Rattle.law_rows.specs.ReadTwice.{answers, answers_again, grants, starts}
 
 pub event0 : (s : Sectors) → KeepsEvent (setting 1 s) (starts s) []
 unfolding client_at reply_in hears next_of is_covered history empty_tree first_nodes client_after taken owed messages_of heard seat sectors_at own_sectors packets server_of views taken_in heard_in made_in told_in client_view with_items uses_items has_crashed server_at after_acts after_act hearing listing_all blocks shown_nodes names_of clients_below
@@ -161,33 +154,38 @@ service3 s = record { server = record {} }
 
 pub service1 : (s : Sectors) → KeepsService (setting 1 s) (grants s) (starts s ∷ [])
 unfolding client_at reply_in hears next_of is_covered history empty_tree first_nodes client_after taken owed messages_of heard seat sectors_at own_sectors packets server_of views taken_in heard_in made_in told_in client_view with_items uses_items has_crashed server_at after_acts after_act hearing listing_all blocks shown_nodes names_of clients_below
-service1 s = record { server = record {
-  mounts = record {};
-  acts = (record {}, record {
-    grants = record {
-      want = WantsNames [];
-      admitted = refl;
-      head_is = refl;
-      unblocked = refl;
-      room = refl;
-      lacks = refl;
-      each = (record { fresh = refl; content = record { same = rw (no-entries map.empty refl) refl; kinds = All-nil _ } }, record {});
-    };
-    refuses = record {};
-    commits = record {};
-    collects = record {};
-    revokes = record {};
-    removes = record {};
+service1 s = record {
+  server = record {
+    mounts = record {};
+    acts = (
+      record {},
+      record {
+        grants = record {
+          want = WantsNames [];
+          admitted = refl;
+          head_is = refl;
+          unblocked = refl;
+          room = refl;
+          lacks = refl;
+          each = (record { fresh = refl; content = record { same = rw (no-entries map.empty refl) refl; kinds = All-nil _ } }, record {});
+        };
+        refuses = record {};
+        commits = record {};
+        collects = record {};
+        revokes = record {};
+        removes = record {};
+        reserve = λ admitted. omega arith;
+      },
+    );
     reserve = λ admitted. omega arith;
-  });
-  reserve = λ admitted. omega arith;
-  ends = record {
-    taken = λ used admitted. absurd (never admitted);
-    collected = record { asked = refl; admitted = λ was now. refl };
-    line = record { named_is = refl; asked = refl };
-    removed = λ tick. absurd (not-so tick);
+    ends = record {
+      taken = λ used admitted. absurd (never admitted);
+      collected = record { asked = refl; admitted = λ was now. refl };
+      line = record { named_is = refl; asked = refl };
+      removed = λ tick. absurd (not-so tick);
+    };
   };
-} }
+}
   where
     never : true ≡ false → ⊥
     never e = cc

@@ -1,8 +1,8 @@
 -- A client creates a file.
-use Rattle.std.specs.Prelude.{ℕ, true, false, List, [], ◌∷◌, Option, Some, None}
+use Rattle.std.specs.Prelude.{ℕ, false, List, [], ◌∷◌, Some, None}
 use Rattle.cal_base.specs.declared.identity.ClientId.{ClientId}
 use Rattle.cal_base.specs.declared.identity.Ino.{Ino}
-use Rattle.cal_base.specs.declared.identity.NodeId.TheVariants.{Client, Server}
+use Rattle.cal_base.specs.declared.identity.NodeId.TheVariants.{Server}
 use Rattle.cal_base.specs.declared.identity.ServerId.TheVariants.{A}
 use Rattle.inode.specs.declared.inode.Kind.TheVariants.{File}
 use Rattle.journal.specs.Commit.{commit_writes}
@@ -20,7 +20,6 @@ use Rattle.tree_law.specs.declared.request.Request.{Request}
 use Rattle.volume_edit.specs.declared.edit.Edit.{Edit}
 use Rattle.volume_plan.specs.Plans.{new_inode}
 use Rattle.cluster_law.specs.declared.step.Event.TheVariants.{Start}
-use Rattle.cluster_law.specs.declared.step.TraceStep.{TraceStep}
 use Rattle.cluster_law.specs.Lanes.{Changes, Commit, Commits, Tells}
 use Rattle.cluster_law.specs.Noted.{DiskAt, Noted}
 use Rattle.law_rows.specs.Formatted.{Sectors, first_disk}

@@ -1,5 +1,5 @@
 -- A cluster that was just formatted.
-use Rattle.std.specs.Prelude.{ℕ, Bool, true, false, List, [], ◌∷◌, replicate, slice_index_or}
+use Rattle.std.specs.Prelude.{ℕ, true, List, [], ◌∷◌, replicate, slice_index_or}
 use Rattle.cluster_law.specs.Noted.{DiskAt, Setting}
 use Rattle.volume.specs.Format.{root_inode}
 use Rattle.volume.specs.Volume.{Volume}

@@ -1,7 +1,7 @@
 -- Packets between client 0 and server A in view 1, and steps that print little.
-use Rattle.std.specs.Prelude.{ℕ, List, [], ◌∷◌, Option, Some, None}
+use Rattle.std.specs.Prelude.{ℕ, List, [], Option, Some, None}
 use Rattle.cal_base.specs.declared.identity.NodeId.{NodeId}
-use Rattle.cal_base.specs.declared.identity.NodeId.TheVariants.{Client, Server}
+use Rattle.cal_base.specs.declared.identity.NodeId.TheVariants.{Client}
 use Rattle.cal_base.specs.declared.identity.ServerId.TheVariants.{A}
 use Rattle.message.specs.Spelling.{message_bytes}
 use Rattle.message.specs.declared.message.Message.{Message}
@@ -9,7 +9,7 @@ use Rattle.session.specs.declared.packet.Packet.{Packet}
 use Rattle.tree_law.specs.declared.entry.Entry.{Entry}
 use Rattle.cluster_law.specs.declared.step.Answer.{Answer}
 use Rattle.cluster_law.specs.declared.step.Event.{Event}
-use Rattle.cluster_law.specs.declared.step.Event.TheVariants.{Start, Deliver}
+use Rattle.cluster_law.specs.declared.step.Event.TheVariants.{Deliver}
 use Rattle.cluster_law.specs.declared.step.TraceStep.{TraceStep}
 use Rattle.cluster_law.specs.Delivery.{packet_on}
 use Rattle.cluster_law.specs.Lanes.{Act, Lane, Up, Down}

@@ -1,6 +1,6 @@
 -- A client reads the names of the root twice.
-use Rattle.std.specs.Prelude.{ℕ, true, List, [], ◌∷◌, Option, Some, None}
-use Rattle.cal_base.specs.declared.identity.NodeId.TheVariants.{Client, Server}
+use Rattle.std.specs.Prelude.{true, List, [], ◌∷◌, Some, None}
+use Rattle.cal_base.specs.declared.identity.NodeId.TheVariants.{Server}
 use Rattle.cal_base.specs.declared.identity.ServerId.TheVariants.{A}
 use Rattle.message.specs.declared.message.Message.{Message}
 use Rattle.message.specs.declared.message.Message.TheVariants.{Acquire, Grant}
@@ -9,10 +9,8 @@ use Rattle.token_kind.specs.declared.content.Content.TheVariants.{Names as Entri
 use Rattle.token_kind.specs.declared.grant_item.GrantItem.{GrantItem}
 use Rattle.token_kind.specs.declared.hold.Hold.TheVariants.{Read}
 use Rattle.tree_law.specs.Tree.{root}
-use Rattle.tree_law.specs.declared.call.Call.{Call}
 use Rattle.tree_law.specs.declared.call.Call.TheVariants.{Readdir}
 use Rattle.tree_law.specs.declared.entry.Entry.TheVariants.{Call as Called}
-use Rattle.tree_law.specs.declared.reply.Reply.{Reply}
 use Rattle.tree_law.specs.declared.reply.Reply.TheVariants.{Names as Listed}
 use Rattle.tree_law.specs.declared.request.Want.TheVariants.{Readdir as WantsNames}
 use Rattle.cluster_law.specs.declared.step.Event.TheVariants.{Start}

@@ -1,4 +1,3 @@
-use Rattle.std.proofs.Common.{◌≡◌}
 use Rattle.cluster_law.proofs.Answering.{own-answer}
 use Rattle.cluster_law.proofs.refusals.a_client_answers_what_is_covered.Goals as goal
 

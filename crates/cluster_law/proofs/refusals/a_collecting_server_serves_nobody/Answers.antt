@@ -1,4 +1,4 @@
-use Rattle.std.proofs.Common.{◌≡◌, subst}
+use Rattle.std.proofs.Common.{subst}
 use Rattle.cluster_law.specs.Granting.{CommitsDeed}
 use Rattle.cluster_law.specs.Removing.{RemovesDeed}
 use Rattle.cluster_law.proofs.refusals.a_collecting_server_serves_nobody.Goals as goal

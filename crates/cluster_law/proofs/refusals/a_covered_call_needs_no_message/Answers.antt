@@ -1,4 +1,3 @@
-use Rattle.std.proofs.Common.{◌≡◌}
 use Rattle.cluster_law.proofs.Answering.{covered-silent, one-request}
 use Rattle.cluster_law.proofs.refusals.a_covered_call_needs_no_message.Goals as goal
 

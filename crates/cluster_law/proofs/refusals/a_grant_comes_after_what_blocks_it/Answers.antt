@@ -1,4 +1,3 @@
-use Rattle.std.proofs.Common.{◌≡◌}
 use Rattle.cluster_law.proofs.Blocked.{others-apart, own-unasked}
 use Rattle.cluster_law.proofs.refusals.a_grant_comes_after_what_blocks_it.Goals as goal
 

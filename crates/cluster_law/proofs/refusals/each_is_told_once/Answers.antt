@@ -1,4 +1,3 @@
-use Rattle.std.proofs.Common.{◌≡◌, ◌≤◌, subst}
 use Rattle.cluster_law.proofs.refusals.each_is_told_once.Goals as goal
 
 pub returns-clause-wait : goal.returns-clause-wait

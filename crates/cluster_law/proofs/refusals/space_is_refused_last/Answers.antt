@@ -1,4 +1,3 @@
-use Rattle.std.proofs.Common.{◌≡◌}
 use Rattle.cluster_law.proofs.Blocked.{no-writes}
 use Rattle.cluster_law.proofs.refusals.space_is_refused_last.Goals as goal
 

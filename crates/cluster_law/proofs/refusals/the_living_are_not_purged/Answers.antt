@@ -1,4 +1,4 @@
-use Rattle.std.proofs.Common.{◌≡◌, subst}
+use Rattle.std.proofs.Common.{subst}
 use Rattle.cluster_law.specs.Removing.{RemovesDeed}
 use Rattle.cluster_law.proofs.RuledOut.{due-gone}
 use Rattle.cluster_law.proofs.refusals.the_living_are_not_purged.Goals as goal

@@ -1,0 +1,34 @@
+-- A cache as a book and a sight.
+use Rattle.std.specs.Prelude.{List, length, map, unwrap_or}
+use Rattle.client_cache.specs.Holds.{hold_in}
+use Rattle.client_cache.specs.Known.{Known, inode_at, part_of}
+use Rattle.token_kind.specs.declared.flush.Flush.{Flush}
+use Rattle.tree_law.specs.Part.{answer_in, needs_in}
+use Rattle.tree_law.specs.declared.reply.Reply.TheVariants.{Done}
+use Rattle.cluster_law.specs.Book.{Book, Flushing, Remembered}
+use Rattle.cluster_law.specs.Sight.{Sight}
+use Rattle.cluster_law.specs.Tokens.{token_of}
+
+-- a flush under way, without what it carries
+abbrev pub flushing_of : Flush → Flushing
+flushing_of flush = record { number = flush.number; ino = flush.ino; leave_data = flush.leave_data; leave_attr = flush.leave_attr }
+
+-- what is known, and what is remembered of Revokes, as a book
+abbrev pub book_of : Known → List Remembered → Book
+book_of known remembered = record {
+  holds = λ ino cls. hold_in (inode_at known ino).holds cls;
+  flushing = map flushing_of known.flushes;
+  remembered = remembered;
+  marks = λ ino. (inode_at known ino).file.marks;
+  flushes = known.last_flush;
+}
+
+-- what is known, as a sight of the files; a call that isn't covered has no reply of its own
+abbrev pub sight_of : Known → Sight
+sight_of known = record {
+  needed = λ call. map token_of (needs_in (part_of known) call);
+  reply = λ call. unwrap_or (answer_in (part_of known) call) Done;
+  table = known.table;
+  unflushed = λ ino. (inode_at known ino).file.unflushed;
+  size = λ ino. length (inode_at known ino).file.contents;
+}

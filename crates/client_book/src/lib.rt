@@ -1,0 +1,10 @@
+//! What a cache knows, read as the book and the sight that the law of the cluster speaks of.
+//!
+//! `book_of` and `sight_of` (specs/Booked) read a cache so. A call is covered by the cache exactly where the
+//! law covers it ([`a_cache_covers_as_its_book`]), and the cache goes on with it as the law says
+//! ([`a_cache_goes_on_as_its_book`]).
+#![tactic(auto)]
+
+mod laws;
+
+pub use laws::{a_cache_covers_as_its_book, a_cache_goes_on_as_its_book};

@@ -38,7 +38,6 @@ fn sector_is_filled_from_its_first_byte(rt: HostRuntime) -> Result<(), Fail> {
     fields.finish(&mut sector);
     let spelled = b"\x09\x01\x02\x00\x00\x00\x00\x03\x00\x00\x00\x00\x00\x00\x00\x04";
     assert_eq!(rt; padded_front(&sector, 16), Some(spelled.as_slice()));
-    assert_eq!(rt; padded_front(&sector, 15), None);
     assert!(rt; is_zeros(&sector[16..]));
     Ok(())
 }

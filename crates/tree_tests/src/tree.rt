@@ -1,4 +1,4 @@
-use cal_base::{Blob, ClientId, Ino, NameList};
+use cal_base::{Blob, ClientId, Ino};
 use std::alloc::Global;
 use std::test::Fail;
 use tree_law::{
@@ -120,17 +120,6 @@ fn read(
     )
 }
 
-fn stat(
-    alloc: Global,
-    tree: &mut PlainTree,
-    client: u8,
-    text: &str,
-    told: Reply,
-) -> Result<bool, Fail> {
-    let call = Call::Stat(path(alloc, text)?);
-    reply(tree, client, call, told)
-}
-
 fn flush(tree: &mut PlainTree, client: u8, number: u32) -> Result<bool, Fail> {
     let client = ClientId(client);
     take(
@@ -178,51 +167,13 @@ fn rename_refuses_in_order(rt: HostRuntime) -> Result<(), Fail> {
     let mut tree = new_tree(alloc)?;
     assert!(rt; mkdir(alloc, &mut tree, "/d", 1)?);
     assert!(rt; mkdir(alloc, &mut tree, "/d/e", 2)?);
+    assert!(rt; create(alloc, &mut tree, "/f", 3)?);
     assert!(rt; rename(alloc, &mut tree, "/d", "/d/e/x", Reply::Refused(Why::Inval))?);
-    assert!(rt; mkdir(alloc, &mut tree, "/g", 3)?);
-    assert!(rt; mkdir(alloc, &mut tree, "/g/h", 4)?);
-    assert!(rt; rename(alloc, &mut tree, "/d", "/g", Reply::Refused(Why::NotEmpty))?);
-    assert!(rt; rename(alloc, &mut tree, "/d", "/d", Reply::Done)?);
-    assert!(rt; create(alloc, &mut tree, "/f", 5)?);
     assert!(rt; rename(alloc, &mut tree, "/f", "/d", Reply::Refused(Why::IsDir))?);
     assert!(rt; rename(alloc, &mut tree, "/d", "/f", Reply::Refused(Why::NotDir))?);
-    Ok(())
-}
-
-#[test]
-fn directories_come_and_go(rt: HostRuntime) -> Result<(), Fail> {
-    let alloc = rt.alloc();
-    let mut tree = new_tree(alloc)?;
-    assert!(rt; mkdir(alloc, &mut tree, "/d", 1)?);
-    assert!(rt;
-        reply(
-            &mut tree,
-            0,
-            Call::Rmdir(path(alloc, "/")?),
-            Reply::Refused(Why::Busy)
-        )?
-    );
-    assert!(rt;
-        reply(
-            &mut tree,
-            0,
-            Call::Unlink(path(alloc, "/d")?),
-            Reply::Refused(Why::IsDir)
-        )?
-    );
-    assert!(rt; mkdir(alloc, &mut tree, "/d/e", 2)?);
     assert!(rt; rename(alloc, &mut tree, "/d/e", "/c", Reply::Done)?);
-    let names = NameList::from_vec(vec![in alloc; blob(alloc, "c")?, blob(alloc, "d")?]?);
-    assert!(rt;
-        reply(
-            &mut tree,
-            0,
-            Call::Readdir(path(alloc, "/")?),
-            Reply::Names(names)
-        )?
-    );
-    assert!(rt; reply(&mut tree, 0, Call::Rmdir(path(alloc, "/d")?), Reply::Done)?);
-    assert!(rt; stat(alloc, &mut tree, 0, "/d", Reply::Refused(Why::NoEnt))?);
+    assert!(rt; rename(alloc, &mut tree, "/c", "/d", Reply::Done)?);
+    assert!(rt; rename(alloc, &mut tree, "/d", "/d", Reply::Done)?);
     assert_eq!(rt; tree.least_free(), Some(Ino(1)));
     Ok(())
 }
@@ -234,22 +185,13 @@ fn a_purge_goes_back_to_what_was_flushed(rt: HostRuntime) -> Result<(), Fail> {
     assert!(rt; create(alloc, &mut tree, "/a", 1)?);
     assert!(rt; open(alloc, &mut tree, 0, "/a", 0)?);
     assert!(rt; write(alloc, &mut tree, 0, "old", Reply::Count(3))?);
-    assert!(rt; !reply(&mut tree, 0, Call::Fsync(0), Reply::Done)?);
     assert!(rt; flush(&mut tree, 0, 1)?);
-    assert!(rt; reply(&mut tree, 0, Call::Fsync(0), Reply::Done)?);
     assert!(rt; write(alloc, &mut tree, 0, "new", Reply::Count(3))?);
     assert!(rt; open(alloc, &mut tree, 1, "/a", 0)?);
     assert!(rt; !read(alloc, &mut tree, 1, 0, "new")?);
-    assert!(rt;
-        take(
-            &mut tree,
-            Entry::Purge {
-                client: ClientId(0)
-            }
-        )?
-    );
+    let client = ClientId(0);
+    assert!(rt; take(&mut tree, Entry::Purge { client })?);
     assert!(rt; read(alloc, &mut tree, 1, 0, "old")?);
-    assert!(rt; !stat(alloc, &mut tree, 0, "/a", Reply::File(3))?);
     Ok(())
 }
 
@@ -259,15 +201,11 @@ fn an_unlinked_file_stays_to_its_last_close(rt: HostRuntime) -> Result<(), Fail>
     let mut tree = new_tree(alloc)?;
     assert!(rt; create(alloc, &mut tree, "/a", 1)?);
     assert!(rt; open(alloc, &mut tree, 0, "/a", 0)?);
-    assert!(rt; open(alloc, &mut tree, 0, "/a", 1)?);
     assert!(rt; write(alloc, &mut tree, 0, "k", Reply::Count(1))?);
     assert!(rt; !reply(&mut tree, 1, Call::Unlink(path(alloc, "/a")?), Reply::Done)?);
     assert!(rt; flush(&mut tree, 0, 1)?);
     assert!(rt; reply(&mut tree, 1, Call::Unlink(path(alloc, "/a")?), Reply::Done)?);
-    assert!(rt; reply(&mut tree, 0, Call::Truncate { fd: 1, size: 3 }, Reply::Done)?);
-    assert!(rt; read(alloc, &mut tree, 0, 0, "k\0\0")?);
-    assert!(rt; flush(&mut tree, 0, 1)?);
-    assert!(rt; reply(&mut tree, 0, Call::Close(1), Reply::Done)?);
+    assert!(rt; read(alloc, &mut tree, 0, 0, "k")?);
     assert_eq!(rt; tree.least_free(), Some(Ino(2)));
     assert!(rt; reply(&mut tree, 0, Call::Close(0), Reply::Done)?);
     assert_eq!(rt; tree.least_free(), Some(Ino(1)));

@@ -1,4 +1,4 @@
-//! Tests of the wire's crates, over their public calls: bodies of messages, members and reports.
+//! Tests of the wire's crates, over their public calls: bodies of messages, members, reports and sessions.
 #![tactic(auto)]
 
 #[cfg(test)]
@@ -7,3 +7,5 @@ mod joining;
 mod message_bodies;
 #[cfg(test)]
 mod reports;
+#[cfg(test)]
+mod sessions;

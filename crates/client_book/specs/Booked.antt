@@ -1,7 +1,11 @@
 -- A cache as a book and a sight.
-use Rattle.std.specs.Prelude.{List, length, map, unwrap_or}
+use Rattle.std.specs.Prelude.{◌≡◌, List, length, map, unwrap_or}
 use Rattle.client_cache.specs.Holds.{hold_in}
 use Rattle.client_cache.specs.Known.{Known, inode_at, part_of}
+use Rattle.client_cache.specs.declared.cached_inode.CachedInode.{CachedInode}
+use Rattle.delayed_write.specs.Marks.{no_marks}
+use Rattle.token_kind.specs.declared.content.Content.{Content}
+use Rattle.token_kind.specs.declared.content.Content.TheVariants.{Nothing as Empty, Names as Entries, Bytes, Size}
 use Rattle.token_kind.specs.declared.flush.Flush.{Flush}
 use Rattle.tree_law.specs.Part.{answer_in, needs_in}
 use Rattle.tree_law.specs.declared.reply.Reply.TheVariants.{Done}
@@ -32,3 +36,10 @@ sight_of known = record {
   unflushed = λ ino. (inode_at known ino).file.unflushed;
   size = λ ino. length (inode_at known ino).file.contents;
 }
+
+-- bytes that come with a Grant come where nothing is marked
+abbrev pub KeepsMarks : CachedInode → Content → Type 0
+KeepsMarks inode Empty = Unit {0}
+KeepsMarks inode (Entries entries) = Unit {0}
+KeepsMarks inode (Bytes bytes) = inode.file.marks ≡ no_marks
+KeepsMarks inode (Size size) = Unit {0}

@@ -1,3 +1,4 @@
 mod Covering
 mod Going
 mod Stating
+mod Answering

@@ -2,8 +2,9 @@
 //!
 //! `book_of` and `sight_of` (specs/Booked) read a cache so. A call is covered by the cache exactly where the
 //! law covers it ([`a_cache_covers_as_its_book`]), and the cache goes on with it as the law says
-//! ([`a_cache_goes_on_as_its_book`]). A flush that starts, an item that is taken and a hold that is lowered
-//! change the cache as they change its book ([`a_cache_changes_as_its_book`]).
+//! ([`a_cache_goes_on_as_its_book`]). A flush that starts or ends, an item that is taken, a hold that is
+//! lowered and a call that is answered change the cache as they change its book
+//! ([`a_cache_changes_as_its_book`]).
 #![tactic(auto)]
 
 mod laws;

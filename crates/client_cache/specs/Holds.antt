@@ -1,11 +1,11 @@
 -- What a client holds of one inode, by class.
-use Rattle.std.specs.Prelude.{ℕ, Bool, true, false, nat_eq, if◌then◌else◌}
+use Rattle.std.specs.Prelude.{ℕ, nat_eq, if◌then◌else◌}
 use Rattle.token_kind.specs.Hold.{hold_number}
 pub use Rattle.token_kind.specs.Hold.{is_held}
 use Rattle.token_kind.specs.declared.«class».Class.{Class}
 use Rattle.token_kind.specs.declared.«class».Class.TheVariants.{Names, Data, Attr, Open}
 use Rattle.token_kind.specs.declared.hold.Hold.{Hold}
-use Rattle.token_kind.specs.declared.hold.Hold.TheVariants.{None as Nothing, Read, Write}
+use Rattle.token_kind.specs.declared.hold.Hold.TheVariants.{None as Nothing}
 use Rattle.client_cache.specs.declared.holds.Holds.{Holds}
 
 -- the hold in a class

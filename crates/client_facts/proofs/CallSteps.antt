@@ -1,7 +1,6 @@
 -- What is known goes on to follow the tree through a call that the client answers by itself.
-use Rattle.std.proofs.Common.{◌≡◌, ◌≢◌, ◌&&◌, ◌⊎◌, ◌≤◌, ◌<◌, ◌+◌, ◌/◌, ◌∷◌, inl, inr, ℕ, zero, suc, Bool, true, false, not, nat_eq, nat_le, nat_lt, List, [], length, get_or, set, if◌then◌else◌, Option, Some, None, Result, Ok, Err, refl, sym, ap, subst, ◌∙◌, arith, ◌==◌, map}
-use Rattle.std.specs.List.{list_any}
-use Rattle.std.proofs.lemmas.Bool.{true≢false, and_parts, cases_eq, cases_lt, ltb-false, eq-eqb}
+use Rattle.std.proofs.Common.{◌≡◌, ◌≢◌, ◌&&◌, ◌⊎◌, ◌≤◌, ◌<◌, ◌+◌, ◌/◌, ◌∷◌, inl, inr, ℕ, zero, suc, Bool, true, false, nat_eq, nat_le, nat_lt, List, [], length, get_or, set, if◌then◌else◌, Option, Some, None, Result, Ok, Err, refl, sym, ap, subst, ◌∙◌, arith}
+use Rattle.std.proofs.lemmas.Bool.{true≢false, and_parts, cases_eq, cases_lt, ltb-false}
 use Rattle.std.proofs.lemmas.List.{get_or-set_same, get_or-set_other, get_or_past}
 use Rattle.cal_base.specs.declared.directory_entry.DirectoryEntry.{DirectoryEntry}
 use Rattle.cal_base.specs.declared.directory_entry.EntryKind.{EntryKind}
@@ -18,19 +17,19 @@ use Rattle.token_kind.specs.Hold.{hold_number}
 use Rattle.token_kind.specs.declared.flush.Flush.{Flush}
 use Rattle.token_kind.specs.declared.hold.Hold.{Hold}
 use Rattle.token_kind.specs.declared.hold.Hold.TheVariants.{None as Nothing, Read as ForReading, Write as ForWriting}
-use Rattle.tree_law.proofs.IdleLemmas.{node_of, swept_node, swept_node_above, swept_tables}
+use Rattle.tree_law.proofs.IdleLemmas.{node_of}
 use Rattle.tree_law.proofs.PartLemmas.{Agrees, agrees_resolve}
 use Rattle.tree_law.specs.After.{after, after_call, changed_node, with_bytes}
 use Rattle.tree_law.specs.After as tree_after
 use Rattle.tree_law.specs.Answer.{counted, made}
 use Rattle.tree_law.specs.Descriptors.{always, file_behind, opened, within_limit, writable, writes}
 use Rattle.tree_law.specs.FileState.{FileState, changed_file}
-use Rattle.tree_law.specs.Idle.{is_flushed_file, is_idle, is_named, is_open, names_it, opens_it, swept, with_node}
+use Rattle.tree_law.specs.Idle.{swept, with_node}
 use Rattle.tree_law.specs.Needs.{want_write, write_needs}
 use Rattle.tree_law.specs.Part.{Place, needs_of_want_in, opened_in, opening_in, resolved_in}
-use Rattle.tree_law.specs.PartOf.{HasEntries, IsKind, kind_of, IsListing}
+use Rattle.tree_law.specs.PartOf.{HasEntries, IsKind, kind_of}
 use Rattle.tree_law.specs.Resolve.{as_file, file_named, judged, resolved}
-use Rattle.tree_law.specs.Tree.{Tree, least_unused, node_at, table_of, descriptor_at}
+use Rattle.tree_law.specs.Tree.{Tree, least_unused, node_at, table_of}
 use Rattle.tree_law.specs.declared.call.Call.{Call}
 use Rattle.tree_law.specs.declared.call.Call.TheVariants.{Create, Mkdir, Unlink, Rmdir, Rename, Open, Close, Read, Write, Truncate, Stat, Readdir, Fsync}
 use Rattle.tree_law.specs.declared.descriptor.Descriptor.{Descriptor}
@@ -51,10 +50,9 @@ use Rattle.client_cache.specs.IsKnown.{IsKnown, IsOpenFile}
 use Rattle.client_cache.specs.Known.{Known, flush_at, inode_at, is_settled, nothing_known, part_of}
 use Rattle.client_cache.proofs.FollowLemmas.{follows_agrees}
 use Rattle.client_cache.proofs.KnownLemmas.{cached_at, open_inside}
-use Rattle.tree_law.specs.Names.{Names}
 use Rattle.client_facts.proofs.SweptSteps.{swept_followed}
 use Rattle.client_facts.specs.Answers.{IsAnswered}
-use Rattle.client_facts.proofs.FileSteps.{entries_left, or_left, or_right}
+use Rattle.client_facts.proofs.FileSteps.{entries_left, or_left}
 use Rattle.client_facts.proofs.KnownSteps.{none_from}
 
 -- what stands at a place of a list of which one place changed

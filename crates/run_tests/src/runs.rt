@@ -50,21 +50,9 @@ fn runs_end_as_their_scripts_and_words_say(rt: HostRuntime) -> Result<(), Fail> 
         (run, "", 3, "BadScript 1 First\n"),
         (run, "clients 1\nc0 open /a r\n", 3, "BadScript 2 Unbuilt\n"),
         (run, "clients 1\n# open\n\nc0 stat /x", 0, STAT),
-        (run, "clients 1\r\nc0 stat /x\n", 3, "BadScript 1 Byte\n"),
         (run, "clients 1\n\0\n", 3, "BadScript 2 Byte\n"),
-        (run, "clients 17\n", 3, "BadScript 1 First\n"),
-        (run, "clients 1\nc0 opens /a r\n", 3, "BadScript 2 Word\n"),
-        (
-            run,
-            "clients 1\nc0 stat /a\nc0 read 0 0\n",
-            3,
-            "BadScript 3 Count\n",
-        ),
-        (run, "clients 1\nc0 close 01\n", 3, "BadScript 2 Number\n"),
-        (run, "clients 1\nc0 stat a\n", 3, "BadScript 2 Path\n"),
         (run, "clients 1\nc0 write 0 0 A0\n", 3, "BadScript 2 Hex\n"),
         (["run", "now"].as_slice(), CALLS, 2, "Usage\n"),
-        (["-h"].as_slice(), CALLS, 2, "Usage\n"),
         ([].as_slice(), CALLS, 2, "Usage\n"),
     ];
     for (words, script, code, text) in runs {
@@ -85,28 +73,13 @@ fn runs_end_as_their_scripts_and_words_say(rt: HostRuntime) -> Result<(), Fail> 
 fn a_failing_edge_ends_the_run(rt: HostRuntime) -> Result<(), Fail> {
     let alloc = rt.alloc();
     let run = ["run"].as_slice();
-    for call in 0..2 {
-        let reads = vec![in alloc; call]?;
-        let ended = run_in_memory(alloc, run, CALLS.as_bytes(), reads, Vec::new(alloc))?;
-        assert_eq!(rt; ended.status.code(), 4);
-        assert!(rt; ended.printed.bytes() == b"ReadFault\n".as_slice());
-    }
-    let mut whole = 0;
-    for (call, line) in TEXT.lines().enumerate() {
-        let writes = vec![in alloc; call as u64]?;
-        let ended = run_in_memory(alloc, run, CALLS.as_bytes(), Vec::new(alloc), writes)?;
-        assert_eq!(rt; ended.status.code(), 5, "{line}");
-        assert_eq!(rt; ended.printed.bytes().len(), whole, "{line}");
-        assert!(rt;
-            TEXT.as_bytes().starts_with(ended.printed.bytes()),
-            "{line}"
-        );
-        whole = ended
-            .printed
-            .bytes()
-            .len()
-            .saturating_add(line.len())
-            .saturating_add(1);
-    }
+    let reads = vec![in alloc; 0]?;
+    let ended = run_in_memory(alloc, run, CALLS.as_bytes(), reads, Vec::new(alloc))?;
+    assert_eq!(rt; ended.status.code(), 4);
+    assert!(rt; ended.printed.bytes() == b"ReadFault\n".as_slice());
+    let writes = vec![in alloc; 1]?;
+    let ended = run_in_memory(alloc, run, CALLS.as_bytes(), Vec::new(alloc), writes)?;
+    assert_eq!(rt; ended.status.code(), 5);
+    assert!(rt; ended.printed.bytes() == b"run clients 1 window 4\n".as_slice());
     Ok(())
 }

@@ -1,4 +1,4 @@
-use Rattle.std.specs.Prelude.{◌≡◌, ◌+◌, ℕ, List, true, ◌&&◌, nat_lt, nat_le, if◌then◌else◌, map, All}
+use Rattle.std.specs.Prelude.{◌≡◌, ◌+◌, ℕ, List, ◌&&◌, nat_lt, nat_le, if◌then◌else◌, map, All}
 use Rattle.cal_base.specs.declared.identity.ClientId.{ClientId}
 use Rattle.cal_base.specs.declared.identity.Ino.{Ino}
 use Rattle.token_kind.specs.Hold.{lesser_of}

@@ -1,4 +1,4 @@
-use Rattle.std.specs.Prelude.{◌≡◌, ◌<◌, ◌≤◌, true, false, All, List, ◌∷◌, [], ◌++◌, Bool, ◌&&◌, not, nat_eq, nat_le, filter, Option, Some, None, if◌then◌else◌}
+use Rattle.std.specs.Prelude.{◌≡◌, ◌<◌, ◌≤◌, true, All, List, ◌∷◌, [], ◌++◌, Bool, ◌&&◌, not, nat_eq, nat_le, filter, Option, Some, None, if◌then◌else◌}
 use Rattle.std.specs.List.{list_any, filter_map, IsDistinct}
 use Rattle.std.specs.Map.{lookup}
 use Rattle.cal_base.specs.Limits.{clients, inodes}

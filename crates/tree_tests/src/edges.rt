@@ -128,6 +128,18 @@ fn files_are_written_and_read_back(rt: HostRuntime) -> Result<(), Fail> {
 }
 
 #[test]
+fn a_full_device_and_a_directory_fail(rt: HostRuntime) -> Result<(), Fail> {
+    let mut full = StdSink::new(fs::create(&rt, "/dev/full")?);
+    assert!(rt; full.write(b"a").is_err());
+    assert_eq!(rt; full.faults(), 1);
+    let mut directory = StdSource::new(fs::open(&rt, "/")?);
+    let mut buffer = [0; 4];
+    assert!(rt; directory.read(&mut buffer).is_err());
+    assert_eq!(rt; directory.faults(), 1);
+    Ok(())
+}
+
+#[test]
 fn memory_gives_and_takes_but_for_listed_calls(rt: HostRuntime) -> Result<(), Fail> {
     let alloc = rt.alloc();
     let bytes = b"hello".to_vec(alloc)?;

@@ -21,7 +21,8 @@ use Rattle.tree_law.specs.declared.call.Call.{Call}
 use Rattle.tree_law.specs.declared.call.Call.TheVariants.{Create, Mkdir, Unlink, Rmdir, Rename, Open, Close, Read, Write, Truncate, Stat, Readdir, Fsync}
 use Rattle.tree_law.specs.declared.mode.Mode.{Mode}
 use Rattle.tree_law.specs.declared.reply.Why.{Why}
-use Rattle.cluster_law.specs.Book.{Remembered, marks_after, with_hold, with_marks, without_flush}
+use Rattle.token_kind.specs.declared.revoke.Revoke.{Revoke}
+use Rattle.cluster_law.specs.Book.{marks_after, with_hold, with_marks, without_flush}
 use Rattle.cluster_law.specs.Sight.{altered, file_if_any}
 use Rattle.cluster_law.specs.Tokens.{same_class}
 use Rattle.client_book.specs.Booked.{book_of, flushing_of, sight_of}
@@ -55,7 +56,7 @@ others number (f ∷ fs) = by (nat_eq f.number number) (others number fs)
     by true rest = rest
     by false rest = ap (λ xs. flushing_of f ∷ xs) rest
 
-left : (known : Known) (remembered : List Remembered) (flush : Flush) → flush.ino.0 < length known.inodes → (inode_at known flush.ino).file.marks ≡ no_marks
+left : (known : Known) (remembered : List Revoke) (flush : Flush) → flush.ino.0 < length known.inodes → (inode_at known flush.ino).file.marks ≡ no_marks
     → book_of (flush_left known flush.number (left_of flush)) (filter (λ revoke. not (nat_eq revoke.ino.0 flush.ino.0)) remembered) ≡ without_flush (book_of known remembered) (flushing_of flush)
 left known remembered flush lt clear = same-books _ _ holds (others flush.number known.flushes) refl marks refl
   where
@@ -78,24 +79,24 @@ left known remembered flush lt clear = same-books _ _ holds (others flush.number
     marks i = marks-at known flush.ino i inode lt ∙ by (nat_eq i.0 flush.ino.0) refl
       where
         stays : inode.file.marks ≡ (inode_at known flush.ino).file.marks
-        stays = left-marks Attr flush.leave_attr (left_with Data flush.leave_data (inode_at known flush.ino)) (left-marks Data flush.leave_data (inode_at known flush.ino) clear) ∙ sym clear
+        stays = left-marks Attr flush.leave_attr (left_with Data flush.leave_data (inode_at known flush.ino)) (record {}) ∙ left-marks Data flush.leave_data (inode_at known flush.ino) clear
 
         by : (b : Bool) → nat_eq i.0 flush.ino.0 ≡ b → (if b then inode.file.marks else (inode_at known i).file.marks) ≡ (inode_at known i).file.marks
         by true e = stays ∙ ap (λ n. (slice_index_or known.inodes n nothing_known).file.marks) (sym (eqb-true i.0 flush.ino.0 e))
         by false e = refl
 
-pub done : (known : Known) (remembered : List Remembered) (flush : Flush) → flush_numbered known flush.number ≡ Some flush → flush.ino.0 < length known.inodes → (inode_at known flush.ino).file.marks ≡ no_marks
+pub done : (known : Known) (remembered : List Revoke) (flush : Flush) → flush_numbered known flush.number ≡ Some flush → flush.ino.0 < length known.inodes → (inode_at known flush.ino).file.marks ≡ no_marks
     → book_of (after_flushed known flush.number) (filter (λ revoke. not (nat_eq revoke.ino.0 flush.ino.0)) remembered) ≡ without_flush (book_of known remembered) (flushing_of flush)
 done known remembered flush found lt clear =
     ap (λ o. book_of (without_known known flush.number o) (filter (λ revoke. not (nat_eq revoke.ino.0 flush.ino.0)) remembered)) found ∙ left known remembered flush lt clear
 
 -- a call is answered
-opens : (known : Known) (remembered : List Remembered) (mode : Mode) (fd : Option ℕ) (file : Option Ino) → book_of (with_open known mode fd file) remembered ≡ book_of known remembered
+opens : (known : Known) (remembered : List Revoke) (mode : Mode) (fd : Option ℕ) (file : Option Ino) → book_of (with_open known mode fd file) remembered ≡ book_of known remembered
 opens known remembered mode (Some fd) (Some ino) = refl
 opens known remembered mode (Some fd) None = refl
 opens known remembered mode None file = refl
 
-changes : (known : Known) (remembered : List Remembered) (call : Call) (change : Delayed → Delayed) (file : Result Ino Why) → ((ino : Ino) → file ≡ Ok ino → ino.0 < length known.inodes)
+changes : (known : Known) (remembered : List Revoke) (call : Call) (change : Delayed → Delayed) (file : Result Ino Why) → ((ino : Ino) → file ≡ Ok ino → ino.0 < length known.inodes)
     → ((ino : Ino) → (change (inode_at known ino).file).marks ≡ marks_after (sight_of known) (book_of known remembered) call ino)
     → book_of (with_change known change file) remembered ≡ with_marks (sight_of known) (book_of known remembered) call (file_if_any file)
 changes known remembered call change (Err why) lt marked = refl
@@ -114,7 +115,7 @@ changes known remembered call change (Ok ino) lt marked = same-books _ _ holds r
     marks : (i : Ino) → (slice_index_or (slice_set known.inodes ino.0 inode) i.0 nothing_known).file.marks ≡ (if nat_eq i.0 ino.0 then marks_after (sight_of known) (book_of known remembered) call ino else (inode_at known i).file.marks)
     marks i = marks-at known ino i inode (lt ino refl) ∙ ap (λ m. if nat_eq i.0 ino.0 then m else (inode_at known i).file.marks) (marked ino)
 
-pub answers : (known : Known) (remembered : List Remembered) (call : Call) → ((ino : Ino) → altered (sight_of known) call ≡ Some ino → ino.0 < length known.inodes)
+pub answers : (known : Known) (remembered : List Revoke) (call : Call) → ((ino : Ino) → altered (sight_of known) call ≡ Some ino → ino.0 < length known.inodes)
     → book_of (after_answer known call) remembered ≡ with_marks (sight_of known) (book_of known remembered) call (altered (sight_of known) call)
 answers known remembered (Create path) lt = refl
 answers known remembered (Mkdir path) lt = refl

@@ -19,7 +19,8 @@ use Rattle.tree_law.specs.declared.request.Want.TheVariants.{Stat as WantStat, O
 use Rattle.tree_law.specs.declared.call.Call.{Call}
 use Rattle.tree_law.specs.declared.call.Call.TheVariants.{Create, Mkdir, Unlink, Rmdir, Rename, Open, Close, Read, Write, Truncate, Stat, Readdir, Fsync}
 use Rattle.tree_law.specs.declared.reply.Why.{Why}
-use Rattle.cluster_law.specs.Book.{Remembered, has_room, is_flushing}
+use Rattle.token_kind.specs.declared.revoke.Revoke.{Revoke}
+use Rattle.cluster_law.specs.Book.{has_room, is_flushing}
 use Rattle.cluster_law.specs.Coverage.{is_covered, is_met as is_met_booked, is_of_file, is_synced as is_synced_booked}
 use Rattle.cluster_law.specs.Lists.{Each}
 use Rattle.cluster_law.specs.Sight.{file_if_any, if_last}
@@ -36,7 +37,7 @@ found ino (f ∷ fs) = by (nat_eq f.ino.0 ino.0) (found ino fs)
     by true rest = refl
     by false rest = rest
 
-pub settled : (known : Known) (remembered : List Remembered) (ino : Ino) → is_flushing (book_of known remembered) ino ≡ not (is_settled known ino)
+pub settled : (known : Known) (remembered : List Revoke) (ino : Ino) → is_flushing (book_of known remembered) ino ≡ not (is_settled known ino)
 settled known remembered ino = found ino known.flushes
 
 -- a need's numbers are those of its token
@@ -90,7 +91,7 @@ unmet true true true = refl
 unmet true true false = refl
 unmet true false settled = refl
 
-pub met : (known : Known) (remembered : List Remembered) (need : Need) → IsToken need → is_met known need ≡ is_met_booked (book_of known remembered) (token_of need)
+pub met : (known : Known) (remembered : List Revoke) (need : Need) → IsToken need → is_met known need ≡ is_met_booked (book_of known remembered) (token_of need)
 met known remembered need t =
     let holds = (inode_at known need.0).holds in
     ap (λ n. nat_le need.2 n && (not (is_file_number need.1) || is_settled known need.0)) (t.held (inode_at known need.0))
@@ -99,7 +100,7 @@ met known remembered need t =
     ∙ unmet (nat_le (hold_number (hold_numbered need.2)) (hold_number (hold_in holds (class_numbered need.1)))) (is_of_file (class_numbered need.1)) (is_settled known need.0)
     ∙ ap (λ b. nat_le (hold_number (hold_numbered need.2)) (hold_number (hold_in holds (class_numbered need.1))) && not (is_of_file (class_numbered need.1) && b)) (sym (settled known remembered need.0))
 
-pub all-met : (known : Known) (remembered : List Remembered) (needs : List Need) → Each IsToken needs → are_met known needs ≡ list_all (is_met_booked (book_of known remembered)) (map token_of needs)
+pub all-met : (known : Known) (remembered : List Revoke) (needs : List Need) → Each IsToken needs → are_met known needs ≡ list_all (is_met_booked (book_of known remembered)) (map token_of needs)
 all-met known remembered [] each = refl
 all-met known remembered (need ∷ needs) each = by (is_met known need) (is_met_booked (book_of known remembered) (token_of need)) (met known remembered need each.0) (all-met known remembered needs each.1)
   where
@@ -114,11 +115,11 @@ and-true : (b : Bool) → b ≡ b && true
 and-true true = refl
 and-true false = refl
 
-pub room-written : (known : Known) (remembered : List Remembered) (fd offset : ℕ) (bytes : List ℕ) (file : Result Ino Why) → write_room known offset (length bytes) file ≡ has_room (sight_of known) (book_of known remembered) (Write fd offset bytes) (file_if_any file)
+pub room-written : (known : Known) (remembered : List Revoke) (fd offset : ℕ) (bytes : List ℕ) (file : Result Ino Why) → write_room known offset (length bytes) file ≡ has_room (sight_of known) (book_of known remembered) (Write fd offset bytes) (file_if_any file)
 room-written known remembered fd offset bytes (Ok ino) = refl
 room-written known remembered fd offset bytes (Err why) = refl
 
-pub room-cut : (known : Known) (remembered : List Remembered) (fd size : ℕ) (file : Result Ino Why) → truncate_room known size file ≡ has_room (sight_of known) (book_of known remembered) (Truncate fd size) (file_if_any file)
+pub room-cut : (known : Known) (remembered : List Revoke) (fd size : ℕ) (file : Result Ino Why) → truncate_room known size file ≡ has_room (sight_of known) (book_of known remembered) (Truncate fd size) (file_if_any file)
 room-cut known remembered fd size (Ok ino) = refl
 room-cut known remembered fd size (Err why) = refl
 
@@ -134,14 +135,14 @@ not-not : (b : Bool) → b ≡ not (not b)
 not-not true = refl
 not-not false = refl
 
-syncs : (known : Known) (remembered : List Remembered) (file : Result Ino Why) → is_synced known file ≡ is_synced_booked (sight_of known) (book_of known remembered) (file_if_any file)
+syncs : (known : Known) (remembered : List Revoke) (file : Result Ino Why) → is_synced known file ≡ is_synced_booked (sight_of known) (book_of known remembered) (file_if_any file)
 syncs known remembered (Ok ino) = ap (λ b. not (inode_at known ino).file.unflushed && b) (not-not (is_settled known ino) ∙ ap not (sym (settled known remembered ino)))
 syncs known remembered (Err why) = refl
 
-plain : (known : Known) (remembered : List Remembered) (call : Call) → are_met known (needs_in (part_of known) call) ≡ list_all (is_met_booked (book_of known remembered)) (map token_of (needs_in (part_of known) call)) && true
+plain : (known : Known) (remembered : List Revoke) (call : Call) → are_met known (needs_in (part_of known) call) ≡ list_all (is_met_booked (book_of known remembered)) (map token_of (needs_in (part_of known) call)) && true
 plain known remembered call = all-met known remembered (needs_in (part_of known) call) (tokens known call) ∙ and-true _
 
-pub covers : (known : Known) (remembered : List Remembered) (call : Call) → covered known call ≡ is_covered (sight_of known) (book_of known remembered) call
+pub covers : (known : Known) (remembered : List Revoke) (call : Call) → covered known call ≡ is_covered (sight_of known) (book_of known remembered) call
 unfolding is_covered
 covers known remembered (Create path) = refl
 covers known remembered (Mkdir path) = refl

@@ -20,7 +20,8 @@ use Rattle.tree_law.specs.Part.{Part, Place, end_needs_in, found_in, look_needs_
 use Rattle.tree_law.specs.declared.call.Call.{Call}
 use Rattle.tree_law.specs.declared.call.Call.TheVariants.{Create, Mkdir, Unlink, Rmdir, Rename, Open, Close, Read, Write, Truncate, Stat, Readdir, Fsync}
 use Rattle.tree_law.specs.declared.reply.Why.{Why}
-use Rattle.cluster_law.specs.Book.{Book, Remembered, has_room, is_flushing}
+use Rattle.token_kind.specs.declared.revoke.Revoke.{Revoke}
+use Rattle.cluster_law.specs.Book.{Book, has_room, is_flushing}
 use Rattle.cluster_law.specs.Coverage.{awaits_flush, awaits_one, closing, has_names, is_of_names, is_enough, making_room, next_of, syncing, uncovered}
 use Rattle.cluster_law.specs.Sight.{file_if_any, if_last}
 use Rattle.cluster_law.specs.Tokens.{class_numbered, token_of}
@@ -85,7 +86,7 @@ both-held : (a b : Bool) → a ≡ true → b ≡ true → a && b ≡ true
 both-held true b e f = f
 both-held false b e f = cc
 
-module _ (known : Known) (remembered : List Remembered) where
+module _ (known : Known) (remembered : List Revoke) where
   look-held : (ino : Ino) (kind : EntryKind) (name : List ℕ) (names : List (List ℕ)) (place : Place) → walked_in (part_of known) (looked_up_in (part_of known) ino kind name) names ≡ Some (Ok place)
       → has_names (book_of known remembered) (map token_of (look_needs_in ino kind)) ≡ true
   look-held ino IsFile name names place e = refl

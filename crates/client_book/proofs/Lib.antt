@@ -2,3 +2,6 @@ mod Covering
 mod Going
 mod Stating
 mod Answering
+mod Hearing
+mod Reporting
+mod Stepping

@@ -17,7 +17,8 @@ use Rattle.token_kind.specs.declared.content.Content.TheVariants.{Nothing as Emp
 use Rattle.token_kind.specs.declared.grant_item.GrantItem.{GrantItem}
 use Rattle.token_kind.specs.declared.hold.Hold.{Hold}
 use Rattle.token_kind.specs.declared.hold.Hold.TheVariants.{None as Nothing, Read, Write}
-use Rattle.cluster_law.specs.Book.{Book, Remembered, leaving as booked_leaving, leaving_at, with_flush, with_hold, with_token}
+use Rattle.token_kind.specs.declared.revoke.Revoke.{Revoke}
+use Rattle.cluster_law.specs.Book.{Book, leaving as booked_leaving, leaving_at, with_flush, with_hold, with_token}
 use Rattle.cluster_law.specs.Tokens.{same_class}
 use Rattle.client_book.specs.Booked.{KeepsMarks, book_of, flushing_of}
 
@@ -35,7 +36,7 @@ put-at known at ino inode lt = by (nat_eq ino.0 at.0) refl
     by false e = search rules
 
 -- a flush starts
-pub start : (known : Known) (remembered : List Remembered) (flush : Flush) → flush.ino.0 < length known.inodes → flush.number ≡ known.last_flush + 1
+pub start : (known : Known) (remembered : List Revoke) (flush : Flush) → flush.ino.0 < length known.inodes → flush.number ≡ known.last_flush + 1
     → book_of (after_start known flush) remembered ≡ with_flush (book_of known remembered) flush.ino flush.leave_data flush.leave_attr
 start known remembered flush lt number = same-books _ _ holds flushing refl marks refl
   where
@@ -86,15 +87,28 @@ left-in cls k Nothing inode = ap (λ holds. hold_in holds k) (forgotten-holds cl
 left-in cls k Read inode = with-in inode.holds cls k Read
 left-in cls k Write inode = with-in inode.holds cls k Write
 
-pub left-marks : (cls : Class) (hold : Hold) (inode : CachedInode) → inode.file.marks ≡ no_marks → (left_with cls hold inode).file.marks ≡ no_marks
-left-marks Names Nothing inode e = e
-left-marks Data Nothing inode e = refl
-left-marks Attr Nothing inode e = e
-left-marks Open Nothing inode e = e
-left-marks cls Read inode e = e
-left-marks cls Write inode e = e
+-- what is forgotten with a hold takes no marks along, but with Data, of which nothing may be marked then
+abbrev pub LosesNoMarks : Class → CachedInode → Type 0
+LosesNoMarks Names inode = Unit {0}
+LosesNoMarks Data inode = inode.file.marks ≡ no_marks
+LosesNoMarks Attr inode = Unit {0}
+LosesNoMarks Open inode = Unit {0}
 
-lesser-lower : (hold to : Hold) → hold_number to < hold_number hold → lesser_of hold to ≡ to
+pub left-marks : (cls : Class) (hold : Hold) (inode : CachedInode) → LosesNoMarks cls inode → (left_with cls hold inode).file.marks ≡ inode.file.marks
+left-marks Names Nothing inode e = refl
+left-marks Data Nothing inode e = sym e
+left-marks Attr Nothing inode e = refl
+left-marks Open Nothing inode e = refl
+left-marks cls Read inode e = refl
+left-marks cls Write inode e = refl
+
+pub without-marks : (cls : Class) (inode : CachedInode) → inode.file.marks ≡ no_marks → LosesNoMarks cls inode
+without-marks Names inode e = record {}
+without-marks Data inode e = e
+without-marks Attr inode e = record {}
+without-marks Open inode e = record {}
+
+pub lesser-lower : (hold to : Hold) → hold_number to < hold_number hold → lesser_of hold to ≡ to
 lesser-lower Nothing to lt = absurd (none lt)
   where
     none : {n : ℕ} → n < 0 → ⊥
@@ -108,7 +122,7 @@ lesser-lower Read Write lt = absurd (not-less lt)
 lesser-lower Write to lt = refl
 
 -- one hold of an inode is another, and nothing is marked of it
-pub one-hold : (known : Known) (remembered : List Remembered) (ino : Ino) (cls : Class) (hold : Hold) (inode : CachedInode) → ino.0 < length known.inodes
+pub one-hold : (known : Known) (remembered : List Revoke) (ino : Ino) (cls : Class) (hold : Hold) (inode : CachedInode) → ino.0 < length known.inodes
     → ((k : Class) → hold_in inode.holds k ≡ (if same_class k cls then hold else hold_in (inode_at known ino).holds k)) → inode.file.marks ≡ (inode_at known ino).file.marks
     → book_of (record { inodes = slice_set known.inodes ino.0 inode; table = known.table; flushes = known.flushes; last_flush = known.last_flush }) remembered
     ≡ record (book_of known remembered) { holds = with_hold (book_of known remembered).holds ino cls hold }
@@ -128,13 +142,17 @@ one-hold known remembered ino cls hold inode lt set marked = same-books _ _ hold
         by true e = marked ∙ ap (λ n. (slice_index_or known.inodes n nothing_known).file.marks) (sym (eqb-true i.0 ino.0 e))
         by false e = refl
 
--- a hold is lowered
-pub lower : (known : Known) (remembered : List Remembered) (ino : Ino) (cls : Class) (to : Hold) → ino.0 < length known.inodes → (inode_at known ino).file.marks ≡ no_marks → hold_number to < hold_number (hold_in (inode_at known ino).holds cls)
+-- a hold is lowered to what is no more than it
+pub lower-to : (known : Known) (remembered : List Revoke) (ino : Ino) (cls : Class) (to : Hold) → ino.0 < length known.inodes → LosesNoMarks cls (inode_at known ino) → lesser_of (hold_in (inode_at known ino).holds cls) to ≡ to
     → book_of (after_lower known ino cls to) remembered ≡ record (book_of known remembered) { holds = with_hold (book_of known remembered).holds ino cls to }
-lower known remembered ino cls to lt clear less =
+lower-to known remembered ino cls to lt clear less =
     one-hold known remembered ino cls to (lowered cls to (inode_at known ino)) lt
-    (λ k. ap (λ hold. hold_in (left_with cls hold (inode_at known ino)).holds k) (lesser-lower _ to less) ∙ left-in cls k to (inode_at known ino))
-    (left-marks cls (lesser_of (hold_in (inode_at known ino).holds cls) to) (inode_at known ino) clear ∙ sym clear)
+    (λ k. ap (λ hold. hold_in (left_with cls hold (inode_at known ino)).holds k) less ∙ left-in cls k to (inode_at known ino))
+    (left-marks cls (lesser_of (hold_in (inode_at known ino).holds cls) to) (inode_at known ino) clear)
+
+pub lower : (known : Known) (remembered : List Revoke) (ino : Ino) (cls : Class) (to : Hold) → ino.0 < length known.inodes → (inode_at known ino).file.marks ≡ no_marks → hold_number to < hold_number (hold_in (inode_at known ino).holds cls)
+    → book_of (after_lower known ino cls to) remembered ≡ record (book_of known remembered) { holds = with_hold (book_of known remembered).holds ino cls to }
+lower known remembered ino cls to lt clear less = lower-to known remembered ino cls to lt (without-marks cls (inode_at known ino) clear) (lesser-lower _ to less)
 
 -- an item of a Grant is taken
 leaves : (ino : Ino) (cls : Class) (hold : Hold) (flush : Flush) → flushing_of (raised ino cls hold flush) ≡ leaving_at ino cls hold (flushing_of flush)
@@ -163,7 +181,7 @@ content-marks inode (Entries entries) e = refl
 content-marks inode (Bytes bytes) e = sym e
 content-marks inode (Size size) e = refl
 
-pub take_item : (known : Known) (remembered : List Remembered) (item : GrantItem) → item.ino.0 < length known.inodes → KeepsMarks (inode_at known item.ino) item.content
+pub take_item : (known : Known) (remembered : List Revoke) (item : GrantItem) → item.ino.0 < length known.inodes → KeepsMarks (inode_at known item.ino) item.content
     → book_of (after_take known item) remembered ≡ with_token (book_of known remembered) item.ino item.«class» item.hold
 take_item known remembered item lt kept =
     let inode = granted (inode_at known item.ino) item.«class» item.hold item.content in

@@ -9,7 +9,8 @@ use Rattle.token_kind.specs.declared.content.Content.TheVariants.{Nothing as Emp
 use Rattle.token_kind.specs.declared.flush.Flush.{Flush}
 use Rattle.tree_law.specs.Part.{answer_in, needs_in}
 use Rattle.tree_law.specs.declared.reply.Reply.TheVariants.{Done}
-use Rattle.cluster_law.specs.Book.{Book, Flushing, Remembered}
+use Rattle.token_kind.specs.declared.revoke.Revoke.{Revoke}
+use Rattle.cluster_law.specs.Book.{Book, Flushing}
 use Rattle.cluster_law.specs.Sight.{Sight}
 use Rattle.cluster_law.specs.Tokens.{token_of}
 
@@ -18,7 +19,7 @@ abbrev pub flushing_of : Flush → Flushing
 flushing_of flush = record { number = flush.number; ino = flush.ino; leave_data = flush.leave_data; leave_attr = flush.leave_attr }
 
 -- what is known, and what is remembered of Revokes, as a book
-abbrev pub book_of : Known → List Remembered → Book
+abbrev pub book_of : Known → List Revoke → Book
 book_of known remembered = record {
   holds = λ ino cls. hold_in (inode_at known ino).holds cls;
   flushing = map flushing_of known.flushes;

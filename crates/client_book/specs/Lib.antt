@@ -1,1 +1,3 @@
 pub mod Booked
+pub mod Memory
+pub mod Client

@@ -4,11 +4,15 @@
 //! law covers it ([`a_cache_covers_as_its_book`]), and the cache goes on with it as the law says
 //! ([`a_cache_goes_on_as_its_book`]). A flush that starts or ends, an item that is taken, a hold that is
 //! lowered and a call that is answered change the cache as they change its book
-//! ([`a_cache_changes_as_its_book`]).
+//! ([`a_cache_changes_as_its_book`]). So do a Revoke, a Flushed, a Grant and a write-back, with the Revokes
+//! that wait behind flushes ([`a_cache_hears_as_its_book`], specs/Memory); and what the cache reports is its
+//! book ([`a_cache_reports_its_book`]). Together, a client at its own values (specs/Client) steps as the law
+//! says ([`a_client_steps_as_the_law`]).
 #![tactic(auto)]
 
 mod laws;
 
 pub use laws::{
     a_cache_changes_as_its_book, a_cache_covers_as_its_book, a_cache_goes_on_as_its_book,
+    a_cache_hears_as_its_book, a_cache_reports_its_book, a_client_steps_as_the_law,
 };

@@ -99,13 +99,13 @@ with-answer : (number : ℕ) (o : Option Reply) (a : Answer) → Some a ≡ answ
 with-answer number None a e = cc
 with-answer number (Some reply) a e = (reply, refl)
 
-pub own-answer : (sight : Sight) (client : ℕ) (old : ClientState) (turn : Turn) (answer : Answer) (entries : List Entry) (call : Call) → Answers sight client old turn (Some answer) entries → (hears sight old turn).call ≡ Some call → told (hears sight old turn) turn ≡ None
-    → IsTrue (is_try turn) × (IsTrue (is_covered sight (hears sight old turn).book call) ⊎ IsSome (closed sight call))
+pub own-answer : (before after : Sight) (client : ℕ) (old : ClientState) (turn : Turn) (answer : Answer) (entries : List Entry) (call : Call) → Answers before after client old turn (Some answer) entries → (hears before old turn).call ≡ Some call → told (hears before old turn) turn ≡ None
+    → IsTrue (is_try turn) × (IsTrue (is_covered after (hears before old turn).book call) ⊎ IsSome (closed after call))
 unfolding reply_in
-own-answer sight client old turn answer entries call a outstanding untold =
-    let given = with-answer _ (reply_in sight old turn) answer a.answer_is in
-    let shown : reply_to (is_try turn) None sight (hears sight old turn) (Some call) ≡ Some given.0 = subst (λ o. reply_to (is_try turn) o sight (hears sight old turn) (Some call) ≡ Some given.0) untold (subst (λ o. reply_to (is_try turn) (told (hears sight old turn) turn) sight (hears sight old turn) o ≡ Some given.0) outstanding given.1) in
-    own-of (is_try turn) sight (hears sight old turn) call given.0 shown
+own-answer before after client old turn answer entries call a outstanding untold =
+    let given = with-answer _ (reply_in before after old turn) answer a.answer_is in
+    let shown : reply_to (is_try turn) None after (hears before old turn) (Some call) ≡ Some given.0 = subst (λ o. reply_to (is_try turn) o after (hears before old turn) (Some call) ≡ Some given.0) untold (subst (λ o. reply_to (is_try turn) (told (hears before old turn) turn) after (hears before old turn) o ≡ Some given.0) outstanding given.1) in
+    own-of (is_try turn) after (hears before old turn) call given.0 shown
 
 -- a covered call is next to be answered
 covered-next : (sight : Sight) (book : Book) (call : Call) → IsTrue (is_covered sight book call) → next_of sight book call ≡ Answers_it
@@ -120,11 +120,11 @@ sendable-none : (moving : Bool) → sendable moving [] ≡ []
 sendable-none true = refl
 sendable-none false = refl
 
-pub covered-silent : (sight : Sight) (c : ClientState) (call : Call) → IsTrue (is_covered sight c.book call) → owed sight c (Starts call) ≡ []
+pub covered-silent : (before after : Sight) (c : ClientState) (call : Call) → IsTrue (is_covered after c.book call) → owed before after c (Starts call) ≡ []
 unfolding owed hears
-covered-silent sight c call covered =
-    let next = covered-next sight c.book call covered in
-    subst (λ n. sendable c.moving (trying sight (record c { calls = c.calls + 1; call = Some call }) call n) ≡ []) (sym next) (sendable-none c.moving)
+covered-silent before after c call covered =
+    let next = covered-next after c.book call covered in
+    subst (λ n. sendable c.moving (trying after (record c { calls = c.calls + 1; call = Some call }) call n) ≡ []) (sym next) (sendable-none c.moving)
 
 pub one-request : (sight : Sight) (c : ClientState) (call : Call) (request : Message) → c.request ≡ Some request → trying sight c call Asks ≡ []
 one-request sight c call request outstanding = ap (λ o. asking o (request_of sight c.calls call)) outstanding

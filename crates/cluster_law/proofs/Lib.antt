@@ -8,3 +8,4 @@ mod Answered
 mod RuledOut
 mod Blocked
 mod Answering
+mod Judged

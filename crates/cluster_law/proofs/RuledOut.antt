@@ -29,6 +29,10 @@ pub both-true : (a b : Bool) → a && b ≡ true → (a ≡ true) × (b ≡ true
 both-true true b e = (refl, e)
 both-true false b e = cc
 
+pub both-held : (a b : Bool) → a ≡ true → b ≡ true → a && b ≡ true
+both-held true b e f = f
+both-held false b e f = cc
+
 module _ {X Y : Type 0} (f : X → List Y) where
   -- what nothing of a list gives, none of it gives
   pub flat-none : (xs : List X) (x : X) → Contains xs x → flat_map f xs ≡ [] → f x ≡ []

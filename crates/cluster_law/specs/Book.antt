@@ -12,6 +12,7 @@ use Rattle.token_kind.specs.declared.content.Content.{Content}
 use Rattle.token_kind.specs.declared.grant_item.GrantItem.{GrantItem}
 use Rattle.token_kind.specs.declared.hold.Hold.TheVariants.{None as Nothing, Read}
 use Rattle.token_kind.specs.declared.hold.Hold.{Hold}
+use Rattle.token_kind.specs.declared.revoke.Revoke.{Revoke}
 use Rattle.tree_law.specs.declared.call.Call.{Call}
 use Rattle.tree_law.specs.declared.call.Call.TheVariants.{Write as WriteCall, Truncate}
 use Rattle.cluster_law.specs.Lists.{is_empty}
@@ -25,17 +26,12 @@ pub record Flushing : Type 0 where
   pub leave_data : Hold
   pub leave_attr : Hold
 
--- a Revoke that waits behind a flush of its file: what was asked
-pub record Remembered : Type 0 where
-  pub ino : Ino
-  pub asked : List (Class × Hold)
-
 -- what is held of each inode in each class; the flushes under way and the Revokes behind them, oldest first;
 -- the blocks of each file that were marked since its last flush; and how many flushes were started
 pub record Book : Type 0 where
   pub holds : Ino → Class → Hold
   pub flushing : List Flushing
-  pub remembered : List Remembered
+  pub remembered : List Revoke
   pub marks : Ino → List Bool
   pub flushes : ℕ
 
@@ -127,7 +123,7 @@ asked_or_read cls asked = unwrap_or (lookup (same_class cls) asked) Read
 
 abbrev pub lowered_by : Lowering → Book → Ino → List (Class × Hold) → Book
 lowered_by Ignores book ino asked = book
-lowered_by Remembers book ino asked = record book { remembered = book.remembered ++ record { ino = ino; asked = asked } ∷ [] }
+lowered_by Remembers book ino asked = record book { remembered = book.remembered ++ record { ino = ino; items = asked } ∷ [] }
 lowered_by Flushes book ino asked = with_flush book ino (asked_or_read Data asked) (asked_or_read Attr asked)
 lowered_by Lowers book ino asked = record book { holds = with_holds book.holds ino asked }
 
@@ -145,12 +141,12 @@ without_flush book flush = record book {
   remembered = filter (λ revoke. not (nat_eq revoke.ino.0 flush.ino.0)) book.remembered;
 }
 
-abbrev pub behind : Book → Flushing → List Remembered
+abbrev pub behind : Book → Flushing → List Revoke
 behind book flush = filter (λ revoke. nat_eq revoke.ino.0 flush.ino.0) book.remembered
 
-unfoldable pub revoked_all : Sight → Book → List Remembered → Book
+unfoldable pub revoked_all : Sight → Book → List Revoke → Book
 revoked_all sight book [] = book
-revoked_all sight book (revoke ∷ revokes) = revoked_all sight (revoked sight book revoke.ino revoke.asked) revokes
+revoked_all sight book (revoke ∷ revokes) = revoked_all sight (revoked sight book revoke.ino revoke.items) revokes
 
 abbrev pub after_flush : Sight → Book → Option Flushing → Book
 after_flush sight book None = book

@@ -49,21 +49,21 @@ own_entry client number (Some call) None = []
 own_entry client number (Some call) (Some reply) = if is_change call then [] else Called (record { 0 = client }) number call reply None ∷ []
 
 -- a client of this state, to which this comes, answers its call and tells the answer's entry
-pub record Answers (sight : Sight) (client : ℕ) (old : ClientState) (turn : Turn) (answer : Option Answer) (entries : List Entry) : Type 0 where
-  pub answer_is : answer ≡ answer_with (client_after sight old turn).calls (reply_in sight old turn)
-  pub entry_is : entries ≡ own_entry client (client_after sight old turn).calls (hears sight old turn).call (reply_in sight old turn)
+pub record Answers (before after : Sight) (client : ℕ) (old : ClientState) (turn : Turn) (answer : Option Answer) (entries : List Entry) : Type 0 where
+  pub answer_is : answer ≡ answer_with (client_after before after old turn).calls (reply_in before after old turn)
+  pub entry_is : entries ≡ own_entry client (client_after before after old turn).calls (hears before old turn).call (reply_in before after old turn)
 
 -- a covered call is answered in the step that starts it, or in which it comes to be covered, and a last `close`
 -- at once; a change by its Done, and where blocks are wanting by Refuse; no call else
 pub record KeepsAnswer (w : Setting) (s : Noted) (earlier : List Noted) : Type 0 where
-  pub client : OfClient s.step.node (λ client. Answers (sight_at client earlier) client (client_at w client earlier) (turn w s earlier) s.step.answer s.step.entries)
+  pub client : OfClient s.step.node (λ client. Answers (sight_at client earlier) (sight_at client earlier) client (client_at w client earlier) (turn w s earlier) s.step.answer s.step.entries)
   pub others : OfOthers s.step.node (s.step.answer ≡ None)
 
 -- what a client's book gives up is released, what it flushes is sent, or kept back until the client is
 -- admitted; what it holds is reported where it is asked; and a call that is left asks for what it needs. It
 -- makes these messages in this order, and no other
 pub record KeepsRelease (w : Setting) (s : Noted) (earlier : List Noted) : Type 0 where
-  pub client : OfClient s.step.node (λ client. map tale_of (messages_of s.acts) ≡ owed (sight_at client earlier) (client_at w client earlier) (turn w s earlier))
+  pub client : OfClient s.step.node (λ client. map tale_of (messages_of s.acts) ≡ owed (sight_at client earlier) (sight_at client earlier) (client_at w client earlier) (turn w s earlier))
 
 -- no item of a Grant is one that its client passes over
 unfoldable pub uses_items : Book → List GrantItem → Bool

@@ -139,9 +139,11 @@ reply_after c sight turn = reply_to (is_try turn) (told c turn) sight c c.call
 abbrev pub state_after : ClientState → Sight → Turn → ClientState
 state_after c sight turn = goes_on_with (is_try turn) (told c turn) sight c c.call
 
--- the reply of a step to the client's outstanding call, if it has one; and the client after the step
-unfoldable pub reply_in : Sight → ClientState → Turn → Option Reply
-reply_in sight c turn = reply_after (hears sight c turn) sight turn
+-- the reply of a step to the client's outstanding call, if it has one; and the client after the step. It hears
+-- what comes by its sight of the files before, and tries its call by that afterwards: in a trace the two are
+-- one, and a cache has by then what came with a Grant
+unfoldable pub reply_in : Sight → Sight → ClientState → Turn → Option Reply
+reply_in before after c turn = reply_after (hears before c turn) after turn
 
-unfoldable pub client_after : Sight → ClientState → Turn → ClientState
-client_after sight c turn = state_after (hears sight c turn) sight turn
+unfoldable pub client_after : Sight → Sight → ClientState → Turn → ClientState
+client_after before after c turn = state_after (hears before c turn) after turn

@@ -51,7 +51,7 @@ sight_at client trace = seen (tree_at trace) (record { 0 = client })
 -- what a client knows of itself, from its own steps
 unfoldable pub client_at : Setting → ℕ → List Noted → ClientState
 client_at w client [] = first_client
-client_at w client (s ∷ earlier) = if is_client s.step.node client then client_after (sight_at client earlier) (client_at w client earlier) (turn w s earlier) else client_at w client earlier
+client_at w client (s ∷ earlier) = if is_client s.step.node client then client_after (sight_at client earlier) (sight_at client earlier) (client_at w client earlier) (turn w s earlier) else client_at w client earlier
 
 -- the view whose server makes a step: a boot is a step of the next view, and a crash is no step
 abbrev pub view_by : Event → ℕ → Option ℕ → Option ℕ

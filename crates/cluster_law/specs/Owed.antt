@@ -12,9 +12,10 @@ use Rattle.token_kind.specs.declared.«class».Class.{Class}
 use Rattle.token_kind.specs.declared.hold.Hold.TheVariants.{None as Nothing, Read}
 use Rattle.token_kind.specs.declared.hold.Hold.{Hold}
 use Rattle.token_kind.specs.declared.reported.Reported.{Reported}
+use Rattle.token_kind.specs.declared.revoke.Revoke.{Revoke as Waiting}
 use Rattle.tree_law.specs.Descriptors.{opened}
 use Rattle.tree_law.specs.declared.call.Call.{Call}
-use Rattle.cluster_law.specs.Book.{Book, Flushing, Remembered, Lowering, Ignores, Remembers, Flushes as FlushesFirst, Lowers, above, asked_or_read, behind, flush_at, flush_numbered, is_flushing, is_held, lowering, next_flush, revoked, without_flush}
+use Rattle.cluster_law.specs.Book.{Book, Flushing, Lowering, Ignores, Remembers, Flushes as FlushesFirst, Lowers, above, asked_or_read, behind, flush_at, flush_numbered, is_flushing, is_held, lowering, next_flush, revoked, without_flush}
 use Rattle.cluster_law.specs.ClientState.{ClientState, Turn, WritesBack, Takes, hears, is_try, request_of}
 use Rattle.cluster_law.specs.Coverage.{next_of}
 use Rattle.cluster_law.specs.Sight.{Sight, file_if_any}
@@ -47,9 +48,9 @@ lowered Lowers book ino asked = Says (Release (record { ino = ino; items = asked
 abbrev pub revoking : Sight → Book → Ino → List (Class × Hold) → List Tale
 revoking sight book ino asked = lowered (lowering sight book ino asked) book ino (above book ino asked)
 
-unfoldable pub revoking_all : Sight → Book → List Remembered → List Tale
+unfoldable pub revoking_all : Sight → Book → List Waiting → List Tale
 revoking_all sight book [] = []
-revoking_all sight book (revoke ∷ revokes) = revoking sight book revoke.ino revoke.asked ++ revoking_all sight (revoked sight book revoke.ino revoke.asked) revokes
+revoking_all sight book (revoke ∷ revokes) = revoking sight book revoke.ino revoke.items ++ revoking_all sight (revoked sight book revoke.ino revoke.items) revokes
 
 abbrev pub revoking_behind : Sight → Book → Option Flushing → List Tale
 revoking_behind sight book None = []
@@ -130,7 +131,7 @@ waiting c = if c.waits then listed c.request else []
 -- the messages that a client owes in a step. Asked, it reports its book and sends its outstanding request;
 -- admitted, it sends all flushes under way, and its request where that had to wait; else it gives up what it
 -- has to, and then goes on with its call
-unfoldable pub owed : Sight → ClientState → Turn → List Tale
-owed sight c (Takes Ask) = map as_piece (pieces_of (report c.book)) ++ listed c.request
-owed sight c (Takes Admit) = map (λ flush. Sends flush) c.book.flushing ++ waiting c
-owed sight c turn = sendable c.moving (hearing sight c.book turn ++ trying_if (is_try turn) sight (hears sight c turn) (hears sight c turn).call)
+unfoldable pub owed : Sight → Sight → ClientState → Turn → List Tale
+owed before after c (Takes Ask) = map as_piece (pieces_of (report c.book)) ++ listed c.request
+owed before after c (Takes Admit) = map (λ flush. Sends flush) c.book.flushing ++ waiting c
+owed before after c turn = sendable c.moving (hearing before c.book turn ++ trying_if (is_try turn) after (hears before c turn) (hears before c turn).call)

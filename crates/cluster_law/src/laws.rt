@@ -1,15 +1,22 @@
 //! What follows from the rules of delivery alone, for every trace: whatever is lost, repeated or comes out
 //! of order.
-ghost use Rattle.std.specs.Prelude.{◌≡◌, ◌≢◌, ◌≤◌, ◌<◌, ◌∷◌, ◌+◌, [], ℕ, List, Some, false, length, map, slice_get, IsTrue};
+ghost use Rattle.std.specs.Prelude.{◌≡◌, ◌≢◌, ◌≤◌, ◌<◌, ◌∷◌, ◌+◌, [], ℕ, IfSome, IsTrue, List, Option, Some, false, length, map, slice_get};
+ghost use Rattle.cal_base.specs.declared.identity.Ino.{Ino};
 ghost use Rattle.message.specs.Spelling.{message_bytes};
 ghost use Rattle.message.specs.declared.message.Message.{Message};
+ghost use Rattle.rebuild.specs.Reports.{judged};
 ghost use Rattle.session.specs.Session.{SessionState};
 ghost use Rattle.session.specs.declared.packet.Packet.{Packet};
+ghost use Rattle.token_kind.specs.declared.«class».Class.{Class};
+ghost use Rattle.token_kind.specs.declared.hold.Hold.{Hold};
+ghost use Rattle.cluster_law.specs.Book.{Flushing};
 ghost use Rattle.cluster_law.specs.Delivery.{Communicates, KeepsDelivery, speaks, sent_on};
 ghost use Rattle.cluster_law.specs.Ends.{SessionFits, hearing, making};
 ghost use Rattle.cluster_law.specs.Lanes.{Lane, back};
 ghost use Rattle.cluster_law.specs.Lists.{numbered};
 ghost use Rattle.cluster_law.specs.Noted.{Setting, Noted, halts};
+ghost use Rattle.cluster_law.specs.Owed.{reported_as};
+ghost use Rattle.cluster_law.specs.Promises.{left_or_held};
 ghost use Rattle.cluster_law.specs.Sessions.{made_in, made_now, sent_in, taken_in, acked_in, heard_in};
 ghost use Rattle.cluster_law.specs.Trace.{packets, server_of};
 
@@ -56,4 +63,11 @@ pub fn a_session_goes_on()
 pub fn a_heard_packet_is_answered()
     ensures { (w : Setting) (lane : Lane) (s : Noted) (earlier : List Noted) (packet : Packet) → KeepsDelivery w s earlier → IsTrue (speaks earlier s lane) → halts s ≡ false
         → heard_in w (back lane) earlier s ≡ Some packet → 0 < packet.seq → sent_on lane s ≢ [] }
+{}
+
+/// What a server makes of a hold that a client reports, judged by the client's last flush on the disk, is what
+/// counts as held: the hold, or what a flush leaves once it is on the disk. So a client's move to another
+/// server changes nothing of what it holds.
+pub fn a_report_judged_is_the_hold()
+    ensures { (done : ℕ) (ino : Ino) (cls : Class) (hold : Hold) (flush : Option Flushing) → IfSome flush (λ f. 0 < f.number) → (judged done (reported_as ino cls hold flush)).hold ≡ left_or_held done cls hold flush }
 {}

@@ -209,14 +209,14 @@ unfolding sent_in heard_in
 silent w l s t p none still hears nobody unsent = rw none (rw still (rw hears (rw nobody (rw unsent (rw (min-zero (acked_in w l t + 8)) (rw (min-zero (acked_in w l (s ∷ t) + 8)) refl))))))
 
 -- a client's step by the values of the folds
-pub client-next : (w : Setting) (c : ℕ) (s : Noted) (t : List Noted) (tree : Tree) (old : ClientState) (took : Option Taken) → is_client s.step.node c ≡ true → tree_of (history t) ≡ tree → client_at w c t ≡ old → taken w t s ≡ took → client_at w c (s ∷ t) ≡ client_after (seen tree (record { 0 = c })) old (turn_by s.step.event took)
+pub client-next : (w : Setting) (c : ℕ) (s : Noted) (t : List Noted) (tree : Tree) (old : ClientState) (took : Option Taken) → is_client s.step.node c ≡ true → tree_of (history t) ≡ tree → client_at w c t ≡ old → taken w t s ≡ took → client_at w c (s ∷ t) ≡ client_after (seen tree (record { 0 = c })) (seen tree (record { 0 = c })) old (turn_by s.step.event took)
 unfolding client_at
 client-next w c s t tree old took own e o k = rw own (rw e (rw o (rw k refl)))
 
-pub answers-by : (w : Setting) (c : ℕ) (s : Noted) (t : List Noted) (tree : Tree) (old : ClientState) (took : Option Taken) → tree_of (history t) ≡ tree → client_at w c t ≡ old → taken w t s ≡ took → Answers (seen tree (record { 0 = c })) c old (turn_by s.step.event took) s.step.answer s.step.entries → Answers (sight_at c t) c (client_at w c t) (turn w s t) s.step.answer s.step.entries
+pub answers-by : (w : Setting) (c : ℕ) (s : Noted) (t : List Noted) (tree : Tree) (old : ClientState) (took : Option Taken) → tree_of (history t) ≡ tree → client_at w c t ≡ old → taken w t s ≡ took → Answers (seen tree (record { 0 = c })) (seen tree (record { 0 = c })) c old (turn_by s.step.event took) s.step.answer s.step.entries → Answers (sight_at c t) (sight_at c t) c (client_at w c t) (turn w s t) s.step.answer s.step.entries
 answers-by w c s t tree old took e o k p = rw e (rw o (rw k p))
 
-pub owes-by : (w : Setting) (c : ℕ) (s : Noted) (t : List Noted) (tree : Tree) (old : ClientState) (took : Option Taken) → tree_of (history t) ≡ tree → client_at w c t ≡ old → taken w t s ≡ took → map_list tale_of (messages_of s.acts) ≡ owed (seen tree (record { 0 = c })) old (turn_by s.step.event took) → map_list tale_of (messages_of s.acts) ≡ owed (sight_at c t) (client_at w c t) (turn w s t)
+pub owes-by : (w : Setting) (c : ℕ) (s : Noted) (t : List Noted) (tree : Tree) (old : ClientState) (took : Option Taken) → tree_of (history t) ≡ tree → client_at w c t ≡ old → taken w t s ≡ took → map_list tale_of (messages_of s.acts) ≡ owed (seen tree (record { 0 = c })) (seen tree (record { 0 = c })) old (turn_by s.step.event took) → map_list tale_of (messages_of s.acts) ≡ owed (sight_at c t) (sight_at c t) (client_at w c t) (turn w s t)
 owes-by w c s t tree old took e o k p = rw e (rw o (rw k p))
 
 -- how many blocks are free with the file, and with its bytes

@@ -1,5 +1,6 @@
 -- The call of a client, from the words behind the client.
 use Rattle.std.specs.Prelude.{ℕ, List, [], ◌∷◌, replicate, if◌then◌else◌, Result, Ok, Err, codes, bytes_eq}
+use Rattle.cal_base.specs.Limits as limits
 use Rattle.tree_law.specs.declared.call.Call.{Call}
 use Rattle.tree_law.specs.declared.call.Call.TheVariants.{Create, Mkdir, Unlink, Rmdir, Rename, Open, Close, Read, Write, Truncate, Stat, Readdir, Fsync}
 use Rattle.tree_law.specs.declared.mode.Mode.{Mode}
@@ -88,15 +89,15 @@ file_call_said call args = then_read (one_of args) (λ word. then_read (descript
 
 -- `read F O L`
 abbrev pub read_said : List (List ℕ) → Result Call BadWhy
-read_said args = then_read (three_of args) (λ places. then_read (descriptor_in places.first) (λ fd. then_read (offset_in places.second) (λ offset. then_read (number_in 0 262144 places.third) (λ count. Ok (Read fd offset count)))))
+read_said args = then_read (three_of args) (λ places. then_read (descriptor_in places.first) (λ fd. then_read (offset_in places.second) (λ offset. then_read (number_in 0 limits.file_size places.third) (λ count. Ok (Read fd offset count)))))
 
 -- `write F O HEX`
 abbrev pub write_said : List (List ℕ) → Result Call BadWhy
-write_said args = then_read (three_of args) (λ places. then_read (descriptor_in places.first) (λ fd. then_read (offset_in places.second) (λ offset. then_read (hex_in 32768 places.third) (λ bytes. Ok (Write fd offset bytes)))))
+write_said args = then_read (three_of args) (λ places. then_read (descriptor_in places.first) (λ fd. then_read (offset_in places.second) (λ offset. then_read (hex_in limits.write_size places.third) (λ bytes. Ok (Write fd offset bytes)))))
 
 -- `fill F O L BB`: the call `write` with L times the byte BB
 abbrev pub fill_said : List (List ℕ) → Result Call BadWhy
-fill_said args = then_read (four_of args) (λ places. then_read (descriptor_in places.first) (λ fd. then_read (offset_in places.second) (λ offset. then_read (number_in 1 32768 places.third) (λ count. then_read (byte_of places.fourth) (λ byte. Ok (Write fd offset (replicate count byte)))))))
+fill_said args = then_read (four_of args) (λ places. then_read (descriptor_in places.first) (λ fd. then_read (offset_in places.second) (λ offset. then_read (number_in 1 limits.write_size places.third) (λ count. then_read (byte_of places.fourth) (λ byte. Ok (Write fd offset (replicate count byte)))))))
 
 -- `truncate F S`
 abbrev pub truncate_said : List (List ℕ) → Result Call BadWhy

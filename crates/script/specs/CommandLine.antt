@@ -1,5 +1,6 @@
 -- A line's command, from its words.
 use Rattle.std.specs.Prelude.{ℕ, ◌==◌, List, [], ◌∷◌, if◌then◌else◌, Result, Ok, Err, codes, bytes_eq}
+use Rattle.cal_base.specs.Limits as limits
 use Rattle.cal_base.specs.declared.identity.NodeId.{NodeId}
 use Rattle.cal_base.specs.declared.identity.ClientId.{ClientId}
 use Rattle.cal_base.specs.declared.identity.ServerId.{ServerId}
@@ -112,7 +113,7 @@ writes_in word = number_in 0 4294967295 word
 abbrev pub how_said : ServerId → List ℕ → HowName → List (List ℕ) → Result Line BadWhy
 how_said server after Cleanly args = then_read (none_of args) (λ none. then_read (writes_in after) (λ writes. Ok (Stop server writes Clean)))
 how_said server after Filled args = then_read (one_of args) (λ word. then_read (writes_in after) (λ writes. then_read (byte_of word) (λ byte. Ok (Stop server writes (Fill byte)))))
-how_said server after Spelled args = then_read (one_of args) (λ word. then_read (writes_in after) (λ writes. then_read (hex_in 4096 word) (λ bytes. Ok (Stop server writes (Hex bytes)))))
+how_said server after Spelled args = then_read (one_of args) (λ word. then_read (writes_in after) (λ writes. then_read (hex_in limits.block_size word) (λ bytes. Ok (Stop server writes (Hex bytes)))))
 
 -- the places of `stop S K HOW` behind the server
 abbrev pub stop_behind : ServerId → List (List ℕ) → Result Line BadWhy
@@ -131,7 +132,7 @@ settle_said args = then_read (none_of args) (λ none. Ok Settle)
 
 -- `window K`
 abbrev pub window_said : List (List ℕ) → Result Said BadWhy
-window_said args = then_read (one_of args) (λ word. then_read (number_in 1 8 word) (λ window. Ok (Window window)))
+window_said args = then_read (one_of args) (λ word. then_read (number_in 1 limits.window word) (λ window. Ok (Window window)))
 
 abbrev pub does : Result Line BadWhy → Result Said BadWhy
 does said = then_read said (λ line. Ok (Does line))
@@ -175,5 +176,5 @@ clients_of (Err why) = Err First
 abbrev pub first_said : List (List ℕ) → Result Said BadWhy
 first_said [] = Err First
 first_said (word ∷ []) = Err First
-first_said (word ∷ count ∷ []) = if bytes_eq word (codes "clients") then clients_of (number_in 1 16 count) else Err First
+first_said (word ∷ count ∷ []) = if bytes_eq word (codes "clients") then clients_of (number_in 1 limits.clients count) else Err First
 first_said (word ∷ count ∷ other ∷ more) = Err First

@@ -1,6 +1,7 @@
 -- What a word has to be at a place of a line: a path, a client, a server, a node, a mode.
-use Rattle.std.specs.Prelude.{ℕ, ◌==◌, ◌&&◌, Bool, List, [], ◌∷◌, length, nat_le, if◌then◌else◌, Result, Ok, Err, codes, bytes_eq}
+use Rattle.std.specs.Prelude.{ℕ, ◌-◌, ◌==◌, ◌&&◌, Bool, List, [], ◌∷◌, length, nat_le, if◌then◌else◌, Result, Ok, Err, codes, bytes_eq}
 use Rattle.std.specs.List.{list_all, slice_split}
+use Rattle.cal_base.specs.Limits as limits
 use Rattle.cal_base.specs.declared.identity.ClientId.{ClientId}
 use Rattle.cal_base.specs.declared.identity.ServerId.{ServerId}
 use Rattle.cal_base.specs.declared.identity.ServerId.TheVariants.{A, B}
@@ -20,7 +21,7 @@ names_in (byte ∷ text) = slice_split (λ byte. byte == 47) (byte ∷ text)
 
 -- at most 16 names
 abbrev pub is_path : List (List ℕ) → Bool
-is_path names = nat_le (length names) 16 && list_all is_name names
+is_path names = nat_le (length names) limits.path_names && list_all is_name names
 
 -- `/`, or 1 to 16 names, each after a `/`
 abbrev pub path_in : List ℕ → Result (List (List ℕ)) BadWhy
@@ -35,7 +36,7 @@ client_of (Err why) = Err Word
 -- `c0` to `c15`
 abbrev pub client_in : List ℕ → Result ClientId BadWhy
 client_in [] = Err Word
-client_in (byte ∷ number) = if byte == 99 then client_of (number_in 0 15 number) else Err Word
+client_in (byte ∷ number) = if byte == 99 then client_of (number_in 0 (limits.clients - 1) number) else Err Word
 
 -- `A` or `B`
 abbrev pub server_in : List ℕ → Result ServerId BadWhy

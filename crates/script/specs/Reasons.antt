@@ -1,6 +1,7 @@
 -- What a numbered line says, or the first reason why it is bad.
 use Rattle.std.specs.Prelude.{◌≡◌, ◌==◌, ◌&&◌, ℕ, Bool, false, List, [], ◌∷◌, length, nat_lt, nat_le, if◌then◌else◌, Result, Ok, Err}
 use Rattle.std.specs.List.{list_all}
+use Rattle.cal_base.specs.Limits as limits
 use Rattle.script.specs.CommandLine.{first_said, words_said}
 use Rattle.script.specs.Lines.{NumberedLine}
 use Rattle.script.specs.Outcome.{then_read}
@@ -18,9 +19,9 @@ is_plain byte = nat_le 32 byte && nat_le byte 126
 -- within the script's bytes and lines, and the line's bytes; plain bytes alone
 abbrev pub fits : NumberedLine → Result (Unit {0}) BadWhy
 fits line =
-    if nat_lt 67108864 line.through then Err Big
-    else if nat_lt 65536 line.number then Err Many
-    else if nat_lt 70000 (length line.text) then Err Long
+    if nat_lt limits.script_bytes line.through then Err Big
+    else if nat_lt limits.script_lines line.number then Err Many
+    else if nat_lt limits.line_bytes (length line.text) then Err Long
     else if list_all is_plain line.text then Ok tt
     else Err Byte
 

@@ -1,4 +1,5 @@
 use Rattle.std.specs.Prelude.{◌≡◌, ◌≤◌, ℕ, List, [], ◌∷◌, ◌++◌, All, true, Result, Ok, Err, ⊤}
+use Rattle.cal_base.specs.Limits as limits
 use Rattle.script.specs.Lines.{NumberedLine, lines_of}
 use Rattle.script.specs.Reasons.{IsGood, IsFirstReason, reading}
 use Rattle.script.specs.Served.{is_served_line}
@@ -45,8 +46,8 @@ pub record IsServedScript (script : Script) : Type 0 where
 
 -- a script whose counts and lines are within the limits of their places
 pub record IsSpelledScript (script : Script) : Type 0 where
-  pub clients : (1 ≤ script.clients) × (script.clients ≤ 16)
-  pub window : (1 ≤ script.window) × (script.window ≤ 8)
+  pub clients : (1 ≤ script.clients) × (script.clients ≤ limits.clients)
+  pub window : (1 ≤ script.window) × (script.window ≤ limits.window)
   pub lines : All (λ line. IsLine line.1) script.lines
 
 -- the first of the lines to which a reason applies, and the first of its reasons

@@ -1,5 +1,6 @@
 -- How a call and a line are written, word by word, and which values have words.
-use Rattle.std.specs.Prelude.{ℕ, ◌+◌, ◌/◌, ◌%◌, ◌≤◌, List, [], ◌∷◌, length, nat_lt, if◌then◌else◌, All, codes, decimal, ⊤}
+use Rattle.std.specs.Prelude.{◌-◌, ℕ, ◌+◌, ◌/◌, ◌%◌, ◌≤◌, List, [], ◌∷◌, length, nat_lt, if◌then◌else◌, All, codes, decimal, ⊤}
+use Rattle.cal_base.specs.Limits as limits
 use Rattle.cal_base.specs.declared.identity.ClientId.{ClientId}
 use Rattle.cal_base.specs.declared.identity.ServerId.{ServerId}
 use Rattle.cal_base.specs.declared.identity.ServerId.TheVariants.{A, B}
@@ -111,7 +112,7 @@ pub record IsBytes (most : ℕ) (bytes : List ℕ) : Type 0 where
 
 -- a client of a cluster
 abbrev pub IsClient : ClientId → Type 0
-IsClient client = client.0 ≤ 15
+IsClient client = client.0 ≤ limits.clients - 1
 
 abbrev pub IsNode : NodeId → Type 0
 IsNode (Client client) = IsClient client
@@ -126,8 +127,8 @@ IsCall (Rmdir path) = IsPath path
 IsCall (Rename from to) = IsPath from × IsPath to
 IsCall (Open path mode) = IsPath path
 IsCall (Close fd) = fd ≤ 255
-IsCall (Read fd offset count) = (fd ≤ 255) × IsWide offset × (count ≤ 262144)
-IsCall (Write fd offset bytes) = (fd ≤ 255) × IsWide offset × IsBytes 32768 bytes
+IsCall (Read fd offset count) = (fd ≤ 255) × IsWide offset × (count ≤ limits.file_size)
+IsCall (Write fd offset bytes) = (fd ≤ 255) × IsWide offset × IsBytes limits.write_size bytes
 IsCall (Truncate fd size) = (fd ≤ 255) × IsWide size
 IsCall (Stat path) = IsPath path
 IsCall (Readdir path) = IsPath path
@@ -136,7 +137,7 @@ IsCall (Fsync fd) = fd ≤ 255
 abbrev pub IsHow : How → Type 0
 IsHow Clean = ⊤
 IsHow (Fill byte) = byte ≤ 255
-IsHow (Hex bytes) = IsBytes 4096 bytes
+IsHow (Hex bytes) = IsBytes limits.block_size bytes
 
 -- a line that a script can spell
 abbrev pub IsLine : Line → Type 0
@@ -157,6 +158,6 @@ IsLine Settle = ⊤
 -- what a line says, where a script can spell it
 abbrev pub IsSaid : Said → Type 0
 IsSaid Nothing = ⊤
-IsSaid (Clients count) = (1 ≤ count) × (count ≤ 16)
-IsSaid (Window window) = (1 ≤ window) × (window ≤ 8)
+IsSaid (Clients count) = (1 ≤ count) × (count ≤ limits.clients)
+IsSaid (Window window) = (1 ≤ window) × (window ≤ limits.window)
 IsSaid (Does line) = IsLine line

@@ -1,4 +1,5 @@
 ghost use Rattle.std.specs.Prelude.{◌≡◌, ◌≤◌, ℕ, List, IfOk, Ok, Err};
+ghost use Rattle.cal_base.specs.Limits as limits;
 ghost use Rattle.script.specs.Places.{client_in};
 ghost use Rattle.script.specs.declared.bad_line.BadWhy.{BadWhy};
 ghost use Rattle.script.specs.declared.command.HowName.TheVariants.{Cleanly, Filled, Spelled};
@@ -365,7 +366,7 @@ pub(crate) fn read_words(alloc: Global, number: u32, text: &[u8]) -> Result<Said
 }
 
 fn clients_of(count: Result<u64, BadWhy>) -> Result<Said, BadWhy>
-    requires { IfOk count (λ clients. clients ≤ 16) }
+    requires { IfOk count (λ clients. clients ≤ limits.clients) }
     ensures { result ≡ clients_of count }
 {
     match count {

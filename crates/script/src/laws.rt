@@ -1,4 +1,5 @@
 ghost use Rattle.std.specs.Prelude.{◌≡◌, ◌≤◌, ◌∷◌, [], ℕ, List, Ok, codes, decimal};
+ghost use Rattle.cal_base.specs.Limits as limits;
 ghost use Rattle.tree_law.specs.declared.call.Call.{Call};
 ghost use Rattle.script.specs.CallLine.{call_said};
 ghost use Rattle.script.specs.CommandLine.{first_said, words_said};
@@ -14,8 +15,8 @@ ghost use Rattle.script.specs.declared.script.Said.TheVariants.{Clients, Window,
 pub fn each_line_has_its_words()
     ensures call { (call : Call) → IsCall call → call_said (call_words call) ≡ Ok call }
     ensures line { (number : ℕ) (line : Line) → IsLine line → words_said number (line_words line) ≡ Ok (Does line) }
-    ensures clients { (count : ℕ) → 1 ≤ count → count ≤ 16 → first_said (codes "clients" ∷ decimal count ∷ []) ≡ Ok (Clients count) }
-    ensures window { (window : ℕ) → 1 ≤ window → window ≤ 8 → words_said 2 (codes "window" ∷ decimal window ∷ []) ≡ Ok (Window window) }
+    ensures clients { (count : ℕ) → 1 ≤ count → count ≤ limits.clients → first_said (codes "clients" ∷ decimal count ∷ []) ≡ Ok (Clients count) }
+    ensures window { (window : ℕ) → 1 ≤ window → window ≤ limits.window → words_said 2 (codes "window" ∷ decimal window ∷ []) ≡ Ok (Window window) }
 {}
 
 /// What is read of a call or of a line can be written: it is within the limits of its places.

@@ -1,4 +1,5 @@
 ghost use Rattle.std.specs.Prelude.{◌≡◌, ◌≤◌, ◌<◌, ◌^◌, ◌+◌, ◌*◌, ◌-◌, ◌&&◌, true, nat_le, MatchOption, IfOk, Ok, Err, if◌then◌else◌};
+ghost use Rattle.cal_base.specs.Limits as limits;
 ghost use Rattle.script.specs.declared.bad_line.BadWhy.TheVariants.{Number};
 ghost use Rattle.std.specs.List.{list_all};
 ghost use Rattle.script.specs.Numbers.{is_digit, is_plainly_begun, is_decimal, value_of, value_behind, number_in, is_hex_digit, nibble, hex_bytes, is_hex, hex_in, byte_of};
@@ -115,7 +116,7 @@ fn joined(high: u8, low: u8) -> u8
 
 /// Whether a word is hexadecimal, of 1 to so many bytes.
 fn is_hex(most: usize, word: &[u8]) -> bool
-    requires { most ≤ 32768 }
+    requires { most ≤ limits.write_size }
     ensures { result ≡ is_hex most word.now }
 {
     are_hex_digits(word) && word.len() % 2 == 0 && !word.is_empty() && word.len() <= 2 * most
@@ -137,7 +138,7 @@ fn hex_bytes(alloc: Global, word: &[u8]) -> Result<Blob, Oom>
 
 /// 1 to so many bytes in hexadecimal: an even number of digits 0 to 9 and a to f.
 pub(crate) fn hex_in(alloc: Global, most: usize, word: &[u8]) -> Result<Blob, ReadLineError>
-    requires { most ≤ 32768 }
+    requires { most ≤ limits.write_size }
     ensures { Answers (hex_in most word.now) result }
 {
     if !is_hex(most, word) {

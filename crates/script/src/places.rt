@@ -1,11 +1,12 @@
-ghost use Rattle.std.specs.Prelude.{◌≡◌, ◌≤◌, IfOk};
+ghost use Rattle.std.specs.Prelude.{◌≡◌, ◌≤◌, ◌-◌, IfOk};
+ghost use Rattle.cal_base.specs.Limits as limits;
 ghost use Rattle.script.specs.Outcome.{Answers};
 ghost use Rattle.script.specs.Places.{path_in, client_of, client_in, server_in, server_node, node_or, node_in, mode_in};
 
 use crate::bad_line::BadWhy;
 use crate::numbers::number_in;
 use crate::read_error::ReadLineError;
-use cal_base::{ClientId, NodeId, ServerId};
+use cal_base::{CLIENTS, ClientId, NodeId, ServerId};
 use std::alloc::Global;
 use tree_law::{Mode, Path, ReadPathError, read_path};
 
@@ -21,7 +22,7 @@ pub(crate) fn path_in(alloc: Global, word: &[u8]) -> Result<Path, ReadLineError>
 }
 
 fn client_of(number: Result<u64, BadWhy>) -> Result<ClientId, BadWhy>
-    requires { IfOk number (λ value. value ≤ 15) }
+    requires { IfOk number (λ value. value ≤ limits.clients - 1) }
     ensures { result ≡ client_of number }
 {
     match number {
@@ -35,7 +36,7 @@ pub(crate) fn client_in(word: &[u8]) -> Result<ClientId, BadWhy>
     ensures { result ≡ client_in word.now }
 {
     match word {
-        [b'c', number @ ..] => client_of(number_in(0, 15, number)),
+        [b'c', number @ ..] => client_of(number_in(0, u64::from(CLIENTS) - 1, number)),
         [] | [_, ..] => Err(BadWhy::Word),
     }
 }

@@ -6,6 +6,8 @@
 //! answers one that [`Cache::covers`] tells, or a last `close`; [`Cache::start_flush`] starts a flush,
 //! which stands among [`Cache::outstanding`] until [`Cache::flushed`] takes it as done;
 //! [`Cache::lower`] gives up a hold; [`Cache::holds`] is the report to a new server.
+//! [`Cache::expects`] tells whether an item of a grant may be taken.
+//! [`Cache::want`] is what is asked of a server for a call.
 //!
 //! Promised: each call makes of what is known exactly what its definition says, and keeps what stands
 //! of it at all times (`IsKnown`), such as that every outstanding flush has a spelling and is the only
@@ -23,6 +25,7 @@ mod holds;
 mod law;
 mod next_step;
 mod resolve;
+mod want;
 
 pub use cache::Cache;
 pub use cached_inode::CachedInode;

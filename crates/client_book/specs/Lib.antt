@@ -1,3 +1,5 @@
 pub mod Booked
 pub mod Memory
 pub mod Client
+pub mod Made
+pub mod Sound

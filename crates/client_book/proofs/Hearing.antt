@@ -79,7 +79,7 @@ rise-below a b (item ∷ items) less rise =
     through : (a b c : ℕ) → a < b → b < c → a < c
     through a b c h k = omega arith
 
-rise-filter : (test : Class × Hold → Bool) (from : ℕ) (items : List (Class × Hold)) → classes_rise from items ≡ true → classes_rise from (filter test items) ≡ true
+pub rise-filter : (test : Class × Hold → Bool) (from : ℕ) (items : List (Class × Hold)) → classes_rise from items ≡ true → classes_rise from (filter test items) ≡ true
 rise-filter test from [] rise = refl
 rise-filter test from (item ∷ items) rise =
     let rises = parts (nat_lt from (class_number item.0)) (classes_rise (class_number item.0) items) rise in

@@ -5,3 +5,9 @@ mod Answering
 mod Hearing
 mod Reporting
 mod Stepping
+pub mod Requesting
+pub mod Tidying
+mod Starting
+mod Sounding
+mod Counting
+mod Amounts

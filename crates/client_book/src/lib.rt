@@ -11,8 +11,10 @@
 #![tactic(auto)]
 
 mod laws;
+mod steps;
 
 pub use laws::{
     a_cache_changes_as_its_book, a_cache_covers_as_its_book, a_cache_goes_on_as_its_book,
     a_cache_hears_as_its_book, a_cache_reports_its_book, a_client_steps_as_the_law,
 };
+pub use steps::{a_client_stays_sound, a_new_client_is_sound, counts_grow_slowly};

@@ -124,7 +124,7 @@ lowers known remembered ino (item ∷ items) from lt clear rise each =
     ∙ ap (λ (b : Book). record b { holds = with_holds b.holds ino items }) (lower known remembered ino item.0 item.1 lt clear each.0)
 
 -- a Revoke is carried out in the same way
-lowering-same : (m : Memory) (sight : Sight) (ino : Ino) (asked : List (Class × Hold)) → sight.unflushed ino ≡ (inode_at m.known ino).file.unflushed → lowering sight (book_in m) ino asked ≡ lowering_in m.known ino asked
+pub lowering-same : (m : Memory) (sight : Sight) (ino : Ino) (asked : List (Class × Hold)) → sight.unflushed ino ≡ (inode_at m.known ino).file.unflushed → lowering sight (book_in m) ino asked ≡ lowering_in m.known ino asked
 lowering-same m sight ino asked e =
     ap (λ b. if is_empty (above_in m.known ino asked) then Ignores else if b then Remembers else if sight.unflushed ino then Flushes else Lowers) (settled m.known m.remembered ino)
     ∙ ap (λ b. if is_empty (above_in m.known ino asked) then Ignores else if not (is_settled m.known ino) then Remembers else if b then Flushes else Lowers) e
@@ -204,7 +204,7 @@ ready-revoked m at i asked here ready = by (lowering_in m.known at asked)
 abbrev pub AreReady : Known → Sight → List Revoke → Type 0
 AreReady known sight list = Each (λ revoke. IsReady known revoke.ino × (sight.unflushed revoke.ino ≡ false) × (classes_rise 0 revoke.items ≡ true)) list
 
-all-ready : (m : Memory) (sight : Sight) (at : Ino) (asked : List (Class × Hold)) (list : List Revoke) → IsReady m.known at → AreReady m.known sight list → AreReady (revoked_in m at asked).known sight list
+pub all-ready : (m : Memory) (sight : Sight) (at : Ino) (asked : List (Class × Hold)) (list : List Revoke) → IsReady m.known at → AreReady m.known sight list → AreReady (revoked_in m at asked).known sight list
 all-ready m sight at asked [] here each = record {}
 all-ready m sight at asked (revoke ∷ list) here each = ((ready-revoked m at revoke.ino asked here each.0.0, each.0.1, each.0.2), all-ready m sight at asked list here each.1)
 
@@ -217,7 +217,7 @@ revokes-all m sight (revoke ∷ list) each =
     ∙ ap (λ b. revoked_all sight b list) (revokes m sight revoke.ino revoke.items ready.within each.0.2 (each.0.1 ∙ sym ready.flushed_is) (λ e. ready.clear))
 
 -- a Flushed of a flush that is under way
-found-same : (number : ℕ) (flushes : List Flush) → find (λ flush. nat_eq flush.number number) (map flushing_of flushes) ≡ option_map flushing_of (find (λ flush. nat_eq flush.number number) flushes)
+pub found-same : (number : ℕ) (flushes : List Flush) → find (λ flush. nat_eq flush.number number) (map flushing_of flushes) ≡ option_map flushing_of (find (λ flush. nat_eq flush.number number) flushes)
 found-same number [] = refl
 found-same number (f ∷ fs) = by (nat_eq f.number number) (found-same number fs)
   where
@@ -226,7 +226,7 @@ found-same number (f ∷ fs) = by (nat_eq f.number number) (found-same number fs
     by true rest = refl
     by false rest = rest
 
-found-number : (number : ℕ) (flushes : List Flush) (flush : Flush) → find (λ flush. nat_eq flush.number number) flushes ≡ Some flush → flush.number ≡ number
+pub found-number : (number : ℕ) (flushes : List Flush) (flush : Flush) → find (λ flush. nat_eq flush.number number) flushes ≡ Some flush → flush.number ≡ number
 found-number number [] flush e = cc
 found-number number (f ∷ fs) flush e = by (nat_eq f.number number) refl e (found-number number fs flush)
   where
@@ -238,7 +238,7 @@ found-number number (f ∷ fs) flush e = by (nat_eq f.number number) refl e (fou
     by false t e rest = rest e
 
 -- what is behind a flush
-behind-ready : (known : Known) (sight : Sight) (ino : Ino) (list : List Revoke) → IsReady known ino → sight.unflushed ino ≡ false → Each (λ revoke. classes_rise 0 revoke.items ≡ true) list → AreReady known sight (filter (is_behind ino) list)
+pub behind-ready : (known : Known) (sight : Sight) (ino : Ino) (list : List Revoke) → IsReady known ino → sight.unflushed ino ≡ false → Each (λ revoke. classes_rise 0 revoke.items ≡ true) list → AreReady known sight (filter (is_behind ino) list)
 behind-ready known sight ino [] ready clean rise = record {}
 behind-ready known sight ino (revoke ∷ list) ready clean rise = by (nat_eq revoke.ino.0 ino.0) refl (behind-ready known sight ino list ready clean rise.1)
   where
@@ -248,7 +248,7 @@ behind-ready known sight ino (revoke ∷ list) ready clean rise = by (nat_eq rev
         ((subst (λ i. IsReady known i) same ready, subst (λ i. sight.unflushed i ≡ false) same clean, rise.0), rest)
     by false e rest = rest
 
-ready-flushed : (known : Known) (flush : Flush) → IsReady known flush.ino → flush_numbered known flush.number ≡ Some flush → IsReady (after_flushed known flush.number) flush.ino
+pub ready-flushed : (known : Known) (flush : Flush) → IsReady known flush.ino → flush_numbered known flush.number ≡ Some flush → IsReady (after_flushed known flush.number) flush.ino
 ready-flushed known flush ready found =
     subst (λ o. IsReady (without_known known flush.number o) flush.ino) (sym found)
     (ready-put known flush.ino flush.ino (flushed_inode flush.leave_data flush.leave_attr (inode_at known flush.ino)) _ _ ready.within

@@ -11,3 +11,5 @@ mod Starting
 mod Sounding
 mod Counting
 mod Amounts
+pub mod Fitting
+mod Saying

@@ -44,11 +44,12 @@ one-at-most : {X : Type 0} (o : Option X) → length (option_to_list o) ≤ 1
 one-at-most None = omega arith
 one-at-most (Some x) = omega arith
 
+-- so is an option under a condition
 one-if : {X : Type 0} (b : Bool) (o : Option X) → length (if b then option_to_list o else []) ≤ 1
 one-if true o = one-at-most o
 one-if false o = omega arith
 
--- Revokes. One makes a message at most, or is remembered
+-- a Revoke makes one message at most, or is remembered
 revoking-amount : (m : Memory) (ino : Ino) (asked : List (Class × Hold)) → length (revoking_in m.known ino asked) + length (revoked_in m ino asked).remembered ≤ length m.remembered + 1
 revoking-amount m ino asked = by (lowering_in m.known ino asked)
   where
@@ -58,6 +59,7 @@ revoking-amount m ino asked = by (lowering_in m.known ino asked)
     by Flushes = omega arith
     by Lowers = omega arith
 
+-- so it is with each of many Revokes
 revoking-all-amount : (m : Memory) (list : List Revoked) → length (revoking_all_in m list) + length (revoked_all_in m list).remembered ≤ length m.remembered + length list
 unfolding revoking_all_in revoked_all_in
 revoking-all-amount m [] = omega arith
@@ -85,11 +87,12 @@ written-amount m (Some ino) = by (inode_at m.known ino).file.unflushed (is_settl
     by true false = omega arith
     by true true = omega arith
 
--- what comes makes one at most, beside those that waited
+-- items that are taken leave what is remembered
 remembered-dropped : (b : Bool) (v : ClientValue) (known : Known) → (with_known (without_request_in b v) known).memory.remembered ≡ v.memory.remembered
 remembered-dropped true v known = refl
 remembered-dropped false v known = refl
 
+-- what comes makes one message at most, beside those of Revokes that waited
 heard-amount : (v : ClientValue) (turn : Turn) → length (hearing_in v.memory turn) + length (hears_in v turn).memory.remembered ≤ length v.memory.remembered + 1
 unfolding hears_in
 heard-amount v Idles = omega arith
@@ -110,11 +113,12 @@ heard-amount v (Takes (Piece piece)) = omega arith
 heard-amount v (Takes (Wait number client)) = omega arith
 heard-amount v (Takes Admit) = omega arith
 
--- a call that goes on makes one at most, and leaves what is remembered
+-- a request is made once at most
 asked-amount : (old made : Option Message) → length (asking_in old made) ≤ 1
 asked-amount None made = one-at-most made
 asked-amount (Some request) made = omega arith
 
+-- a call that is tried makes one at most
 tried-amount : (v : ClientValue) (call : Call) (next : Next) → length (trying_in v call next) ≤ 1
 tried-amount v call Answer = omega arith
 tried-amount v call (LastClose ino) = omega arith
@@ -122,11 +126,13 @@ tried-amount v call Waits = omega arith
 tried-amount v call (StartsFlush ino) = omega arith
 tried-amount v call Asks = asked-amount v.request (request_of (sight_of v.memory.known) v.calls call)
 
+-- so it is where there may be none, or it may not be tried
 tried-if-amount : (try : Bool) (v : ClientValue) (o : Option Call) → length (trying_if_in try v o) ≤ 1
 tried-if-amount false v o = omega arith
 tried-if-amount true v None = omega arith
 tried-if-amount true v (Some call) = tried-amount v call (next_known v.memory.known call)
 
+-- a call that goes on leaves what is remembered
 went-on-remembered : (try : Bool) (reply : Option Reply) (v : ClientValue) (o : Option Call) → (goes_on_in try reply v o).memory.remembered ≡ v.memory.remembered
 went-on-remembered try reply v None = refl
 went-on-remembered try (Some reply) v (Some call) = refl
@@ -140,6 +146,7 @@ went-on-remembered true None v (Some call) = by (next_known v.memory.known call)
     by Asks = refl
 went-on-remembered false None v (Some call) = refl
 
+-- so a step leaves remembered as many as were once it had heard
 after-remembered : (v : ClientValue) (turn : Turn) → length (value_after v turn).memory.remembered ≡ length (hears_in v turn).memory.remembered
 unfolding value_after
 after-remembered v turn = ap (λ (list : List Revoked). length list) (went-on-remembered (is_try turn) (told (state_of (hears_in v turn)) turn) (hears_in v turn) (hears_in v turn).call)
@@ -151,6 +158,7 @@ sendable-amount true messages =
     let most = count_by-le-length (λ message. not (is_kept_back message)) messages in
     let same = length-filter (λ message. not (is_kept_back message)) messages in omega (arith, most, same)
 
+-- a step other than at an Ask or an Admit makes two at most, beside those of Revokes that waited
 usual-amount : (v : ClientValue) (turn : Turn) → length (sendable_in v.moving (hearing_in v.memory turn ++ trying_if_in (is_try turn) (hears_in v turn) (hears_in v turn).call)) + length (value_after v turn).memory.remembered ≤ length v.memory.remembered + 513
 usual-amount v turn =
     let heard = heard-amount v turn in
@@ -160,18 +168,19 @@ usual-amount v turn =
     let same = after-remembered v turn in
     omega (arith, heard, tried, both, sent, same)
 
--- A report of at most 2,048 holds has at most 64 pieces
+-- there are as many full pieces as are counted
 full-amount : (holds : List Reported) (n : ℕ) → length (full_pieces holds n) ≡ n
 unfolding full_pieces
 full-amount holds zero = refl
 full-amount holds (suc n) = let before = full-amount holds n in let both = length-append (full_pieces holds n) (full_piece holds n ∷ []) in omega (arith, before, both)
 
+-- a report of at most 2,048 holds has at most 64 pieces
 pieces-amount : (holds : List Reported) → length holds ≤ 2048 → length (pieces_of holds) ≤ 64
 pieces-amount holds few =
     let full = full-amount holds (full_count holds) in
     omega (arith, full, length-append {A = PieceRecord})
 
--- Flushes under way are of different files of the volume
+-- a number that is no file's is none of their numbers
 none-same : (n : ℕ) (flushes : List FlushRecord) → All (λ flush. n ≢ flush.ino.0) flushes → AllByRecursion (λ m. eqb n m ≡ false) (map (λ (flush : FlushRecord). flush.ino.0) flushes)
 none-same n [] each = tt
 none-same n (flush ∷ flushes) each = (by (eqb n flush.ino.0) refl, none-same n flushes (All-tail (λ flush. n ≢ flush.ino.0) flush flushes each))
@@ -180,6 +189,7 @@ none-same n (flush ∷ flushes) each = (by (eqb n flush.ino.0) refl, none-same n
     by true e = absurd (All-head (λ flush. n ≢ flush.ino.0) flush flushes each (eqb-true n flush.ino.0 e))
     by false e = refl
 
+-- flushes under way are of different files
 files-differ : (flushes : List FlushRecord) → AllPairs IsLater flushes → IsDistinct eqb (map (λ (flush : FlushRecord). flush.ino.0) flushes)
 unfolding IsDistinct
 files-differ [] order = tt
@@ -188,6 +198,7 @@ files-differ (flush ∷ flushes) order = (
   files-differ flushes (λ i j d lower within. order (suc i) (suc j) d (omega (arith, lower)) (omega (arith, within))),
 )
 
+-- and of the volume
 files-inside : (flushes : List FlushRecord) → All IsFlush flushes → (q : ℕ) → list_any (eqb q) (map (λ (flush : FlushRecord). flush.ino.0) flushes) ≡ true → q < 512
 files-inside [] each q e = absurd (cc)
 files-inside (flush ∷ flushes) each q e = by (eqb q flush.ino.0) refl e (files-inside flushes (All-tail IsFlush flush flushes each) q)
@@ -197,12 +208,13 @@ files-inside (flush ∷ flushes) each q e = by (eqb q flush.ino.0) refl e (files
     by true same e rest = let one = eqb-true q flush.ino.0 same in let inside = (All-head IsFlush flush flushes each).ino in omega (arith, one, inside)
     by false same e rest = rest e
 
+-- so there are at most 512
 flushes-amount : (known : Known) → IsKnown known → length known.flushes ≤ 512
 flushes-amount known is =
     let most = length-le_from_distinct_below (map (λ (flush : FlushRecord). flush.ino.0) known.flushes) 512 (files-differ known.flushes is.order) (files-inside known.flushes is.flushes) in
     let same = length-map known.flushes (λ (flush : FlushRecord). flush.ino.0) in omega (arith, most, same)
 
--- an Ask makes the pieces of a report, and an Admit the flushes under way, each with a request
+-- an Ask makes the pieces of a report, and a request
 asked-for-amount : (v : ClientValue) → IsKnown v.memory.known → length (map piece_message (pieces_of (reports v.memory.known)) ++ option_to_list v.request) ≤ 513
 asked-for-amount v is =
     let few = pieces-amount (reports v.memory.known) (is_report v.memory.known (reports v.memory.known) is refl).few in
@@ -211,6 +223,7 @@ asked-for-amount v is =
     let both = length-append (map piece_message (pieces_of (reports v.memory.known))) (option_to_list v.request) in
     omega (arith, few, same, one, both)
 
+-- an Admit makes the flushes under way, and a request
 admitted-amount : (v : ClientValue) → IsKnown v.memory.known → length (map flush_message v.memory.known.flushes ++ (if v.waits then option_to_list v.request else [])) ≤ 513
 admitted-amount v is =
     let few = flushes-amount v.memory.known is in

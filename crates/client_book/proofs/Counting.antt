@@ -7,17 +7,16 @@ use Rattle.client_cache.specs.Changes.{after_flushed, after_lower, after_start, 
 use Rattle.client_cache.specs.Covered.{target_of}
 use Rattle.client_cache.specs.Known.{Known, inode_at, is_flush_of, is_settled, part_of}
 use Rattle.client_cache.specs.Next.{next_of as next_known}
-use Rattle.client_cache.specs.declared.cached_inode.CachedInode.{CachedInode}
 use Rattle.client_cache.specs.declared.next_step.Next.{Next}
 use Rattle.client_cache.specs.declared.next_step.Next.TheVariants.{Answer, LastClose, Waits, Flushes as StartsFlush, Asks}
 use Rattle.message.specs.declared.message.Message.TheVariants.{Acquire, Grant, Refuse, Change, Done, Flush, Flushed, Revoke, Release, Ask, Piece, Wait, Admit}
 use Rattle.delayed_write.specs.Delayed.{Delayed, after_truncate, after_write}
 use Rattle.token_kind.specs.declared.«class».Class.{Class}
-use Rattle.token_kind.specs.declared.«class».Class.TheVariants.{Names, Data, Attr, Open}
+use Rattle.token_kind.specs.declared.«class».Class.TheVariants.{Data, Attr}
 use Rattle.token_kind.specs.declared.flush.Flush.{Flush as FlushRecord}
 use Rattle.token_kind.specs.declared.grant_item.GrantItem.{GrantItem}
 use Rattle.token_kind.specs.declared.hold.Hold.{Hold}
-use Rattle.token_kind.specs.declared.hold.Hold.TheVariants.{None as Nothing, Read, Write}
+use Rattle.token_kind.specs.declared.hold.Hold.TheVariants.{Read}
 use Rattle.token_kind.specs.declared.revoke.Revoke.{Revoke as Revoked}
 use Rattle.tree_law.specs.Descriptors.{opened, within_limit, writable}
 use Rattle.tree_law.specs.Part.{resolved_in}
@@ -35,19 +34,17 @@ use Rattle.client_book.specs.Booked.{sight_of}
 use Rattle.client_book.specs.Client.{ClientValue, goes_on_in, hears_in, lower_open, state_of, tried_in, value_after, with_known, without_request_in}
 use Rattle.client_book.specs.Memory.{Memory, above_in, after_flush_in, flushed_in, is_behind, item_in, items_in, lower_all, lowered_in, lowering_in, revoked_all_in, revoked_in, written_back_in}
 use Rattle.client_book.specs.Sound.{IsClient, IsTidy}
+use Rattle.client_book.proofs.Hearing.{left-flushed}
 use Rattle.client_book.proofs.Sounding.{heard-calls}
-use Rattle.client_book.proofs.Tidying.{put-keeps}
+use Rattle.client_book.proofs.Tidying.{apart, put-keeps}
 
--- nothing is both
-apart : {X : Type 0} → false ≡ true → X
-apart e = absurd (cc)
-
--- Flushes. Nothing but a flush that starts has a number of its own
+-- lowering holds starts no flush
 last-lowered : (known : Known) (ino : Ino) (items : List (Class × Hold)) → (lower_all known ino items).last_flush ≡ known.last_flush
 unfolding lower_all
 last-lowered known ino [] = refl
 last-lowered known ino (item ∷ items) = last-lowered (after_lower known ino item.0 item.1) ino items
 
+-- the items of a Grant start no flush
 last-items : (known : Known) (items : List GrantItem) → (items_in known items).last_flush ≡ known.last_flush
 unfolding items_in
 last-items known [] = refl
@@ -57,6 +54,7 @@ last-items known (item ∷ items) = last-items (item_in known item) items ∙ by
     by true = refl
     by false = refl
 
+-- nor does the end of one
 last-flushed : (known : Known) (number : ℕ) → (after_flushed known number).last_flush ≡ known.last_flush
 last-flushed known number = by (flush_numbered known number)
   where
@@ -64,19 +62,23 @@ last-flushed known number = by (flush_numbered known number)
     by None = refl
     by (Some flush) = refl
 
+-- nor does Open that is given back
 last-open : (known : Known) (file : Option Ino) → (lower_open known file).last_flush ≡ known.last_flush
 last-open known None = refl
 last-open known (Some ino) = refl
 
+-- nor does `open`
 last-with-open : (known : Known) (mode : Mode) (fd : Option ℕ) (file : Option Ino) → (with_open known mode fd file).last_flush ≡ known.last_flush
 last-with-open known mode (Some fd) (Some ino) = refl
 last-with-open known mode (Some fd) None = refl
 last-with-open known mode None file = refl
 
+-- nor does a write or truncate
 last-changed : (known : Known) (change : Delayed → Delayed) (file : Result Ino Why) → (with_change known change file).last_flush ≡ known.last_flush
 last-changed known change (Ok ino) = refl
 last-changed known change (Err why) = refl
 
+-- nor does any call that is answered
 last-answered : (known : Known) (call : Call) → (after_answer known call).last_flush ≡ known.last_flush
 last-answered known (Create path) = refl
 last-answered known (Mkdir path) = refl
@@ -116,27 +118,22 @@ last-clean m ino asked clean = by (is_empty (above_in m.known ino asked)) (is_se
     by false false false e = refl
     by false true false e = last-lowered m.known ino (above_in m.known ino asked)
 
--- a clean file stays so
-left-clean : (cls : Class) (hold : Hold) (inode : CachedInode) → inode.file.unflushed ≡ false → (left_with cls hold inode).file.unflushed ≡ false
-left-clean Names Nothing inode e = e
-left-clean Data Nothing inode e = refl
-left-clean Attr Nothing inode e = e
-left-clean Open Nothing inode e = e
-left-clean cls Read inode e = e
-left-clean cls Write inode e = e
-
+-- inodes of one number are clean alike
 same-inode : (known : Known) (at i : Ino) → nat_eq i.0 at.0 ≡ true → IsClean known i → IsClean known at
 same-inode known at i e clean = subst (λ (n : ℕ). IsClean known (record { 0 = n })) (eqb-true i.0 at.0 e) clean
 
+-- a clean file stays so where a hold is lowered
 lowered-clean : (known : Known) (at i : Ino) (cls : Class) (to : Hold) → IsClean known i → IsClean (after_lower known at cls to) i
 lowered-clean known at i cls to clean =
-    put-keeps (λ x. x.file.unflushed ≡ false) known at i (lowered cls to (inode_at known at)) (λ e. left-clean cls _ (inode_at known at) (same-inode known at i e clean)) clean
+    put-keeps (λ x. x.file.unflushed ≡ false) known at i (lowered cls to (inode_at known at)) (λ e. left-flushed cls _ (inode_at known at) (same-inode known at i e clean)) clean
 
+-- and where holds are lowered one after the other
 all-clean : (known : Known) (at i : Ino) (items : List (Class × Hold)) → IsClean known i → IsClean (lower_all known at items) i
 unfolding lower_all
 all-clean known at i [] clean = clean
 all-clean known at i (item ∷ items) clean = all-clean (after_lower known at item.0 item.1) at i items (lowered-clean known at i item.0 item.1 clean)
 
+-- and where a Revoke is taken
 revoked-clean : (m : Memory) (at i : Ino) (asked : List (Class × Hold)) → IsClean m.known i → IsClean (revoked_in m at asked).known i
 revoked-clean m at i asked clean = by (lowering_in m.known at asked)
   where
@@ -146,6 +143,7 @@ revoked-clean m at i asked clean = by (lowering_in m.known at asked)
     by Flushes = put-keeps (λ x. x.file.unflushed ≡ false) m.known at i _ (λ e. refl) clean
     by Lowers = all-clean m.known at i (above_in m.known at asked) clean
 
+-- and where a flush is done
 flushed-clean : (known : Known) (number : ℕ) (i : Ino) → IsClean known i → IsClean (after_flushed known number) i
 flushed-clean known number i clean = by (flush_numbered known number)
   where
@@ -153,7 +151,7 @@ flushed-clean known number i clean = by (flush_numbered known number)
     by None = clean
     by (Some flush) =
         put-keeps (λ x. x.file.unflushed ≡ false) known flush.ino i (flushed_inode flush.leave_data flush.leave_attr (inode_at known flush.ino))
-        (λ e. left-clean Attr flush.leave_attr (left_with Data flush.leave_data (inode_at known flush.ino)) (left-clean Data flush.leave_data (inode_at known flush.ino) (same-inode known flush.ino i e clean))) clean
+        (λ e. left-flushed Attr flush.leave_attr (left_with Data flush.leave_data (inode_at known flush.ino)) (left-flushed Data flush.leave_data (inode_at known flush.ino) (same-inode known flush.ino i e clean))) clean
 
 -- the Revokes behind a flush of a clean file start none
 last-behind : (m : Memory) (ino : Ino) (list : List Revoked) → IsClean m.known ino → (revoked_all_in m (filter (is_behind ino) list)).known.last_flush ≡ m.known.last_flush
@@ -205,6 +203,7 @@ last-done m number tidy = by (flush_numbered m.known number) refl
         (flushed-clean m.known number flush.ino (found-clean m.known number flush e tidy))
         ∙ last-flushed m.known number
 
+-- a file that is written back starts one flush at most
 last-written : (m : Memory) (file : Option Ino) → (written_back_in m file).known.last_flush ≤ m.known.last_flush + 1
 last-written m None = omega arith
 last-written m (Some ino) = by (inode_at m.known ino).file.unflushed (is_settled m.known ino)
@@ -214,11 +213,12 @@ last-written m (Some ino) = by (inode_at m.known ino).file.unflushed (is_settled
     by true false = omega arith
     by true true = omega arith
 
--- a client that hears starts one flush at most
+-- a client that took items knows what they made known
 last-dropped : (b : Bool) (v : ClientValue) (known : Known) → (with_known (without_request_in b v) known).memory.known.last_flush ≡ known.last_flush
 last-dropped true v known = refl
 last-dropped false v known = refl
 
+-- a client that hears starts one flush at most
 last-heard : (v : ClientValue) (turn : Turn) → IsTidy v.memory.known → (hears_in v turn).memory.known.last_flush ≤ v.memory.known.last_flush + 1
 unfolding hears_in
 last-heard v Idles tidy = omega arith
@@ -252,6 +252,7 @@ last-tried v call Waits = omega arith
 last-tried v call (StartsFlush ino) = omega arith
 last-tried v call Asks = omega arith
 
+-- so does a client that goes on with its call
 last-went-on : (try : Bool) (reply : Option Reply) (v : ClientValue) (o : Option Call) → (goes_on_in try reply v o).memory.known.last_flush ≤ v.memory.known.last_flush + 1
 last-went-on try reply v None = omega arith
 last-went-on try (Some reply) v (Some call) = omega arith
@@ -266,7 +267,7 @@ last-stepped v turn is =
     let later = last-went-on (is_try turn) (told (state_of (hears_in v turn)) turn) (hears_in v turn) (hears_in v turn).call in
     omega (arith, first, later)
 
--- and one call at most
+-- a client that goes on with its call starts none
 went-on-calls : (try : Bool) (reply : Option Reply) (v : ClientValue) (o : Option Call) → (goes_on_in try reply v o).calls ≡ v.calls
 went-on-calls try reply v None = refl
 went-on-calls try (Some reply) v (Some call) = refl
@@ -280,6 +281,7 @@ went-on-calls true None v (Some call) = by (next_known v.memory.known call)
     by Asks = refl
 went-on-calls false None v (Some call) = refl
 
+-- a step starts one call at most
 pub calls-stepped : (v : ClientValue) (turn : Turn) → (value_after v turn).calls ≤ v.calls + 1
 unfolding value_after
 calls-stepped v turn =

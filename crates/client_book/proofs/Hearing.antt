@@ -155,7 +155,7 @@ revokes m sight ino asked lt rise same clear =
         ∙ body l e
         ∙ sym (ap (λ l. lowered_by l (book_in m) ino (above_in m.known ino asked)) (lowering-same m sight ino asked same ∙ e))
 
-left-flushed : (cls : Class) (hold : Hold) (inode : CachedInode) → inode.file.unflushed ≡ false → (left_with cls hold inode).file.unflushed ≡ false
+pub left-flushed : (cls : Class) (hold : Hold) (inode : CachedInode) → inode.file.unflushed ≡ false → (left_with cls hold inode).file.unflushed ≡ false
 left-flushed Names Nothing inode e = e
 left-flushed Data Nothing inode e = refl
 left-flushed Attr Nothing inode e = e

@@ -51,14 +51,17 @@ abbrev IsWanted : Option Want → Type 0
 IsWanted None = Unit {0}
 IsWanted (Some want) = IsWant want
 
+-- what `open` wants has a path
 opening-wanted : (fd : Option ℕ) (path : _) → IsPath path → IsWanted (want_open fd path)
 opening-wanted None path is = record {}
 opening-wanted (Some fd) path is = is
 
+-- what `read` wants is of the volume
 reading-wanted : (file : Result Ino Why) → IsInside file → IsWanted (want_read file)
 reading-wanted (Err why) inside = record {}
 reading-wanted (Ok ino) inside = inside
 
+-- so is what `write` and `truncate` want
 writing-wanted : (file : Result Ino Why) → IsInside file → IsWanted (want_write file)
 writing-wanted (Err why) inside = record {}
 writing-wanted (Ok ino) inside = inside

@@ -71,6 +71,7 @@ revoked-remembered m revoke is each = by (lowering_in m.known revoke.ino revoke.
     by Flushes e = each
     by Lowers e = each
 
+-- so it is with Revokes that are taken one after the other
 all-remembered : (m : Memory) (list : List Revoked) → All IsRemembered list → All IsRemembered m.remembered → All IsRemembered (revoked_all_in m list).remembered
 unfolding revoked_all_in
 all-remembered m [] is each = each
@@ -88,6 +89,7 @@ done-remembered m number each = by (flush_numbered m.known number)
         (All-filter (is_behind flush.ino) IsRemembered m.remembered each)
         (All-filter (λ revoke. not (is_behind flush.ino revoke)) IsRemembered m.remembered each)
 
+-- a file that is written back leaves what is remembered
 written-remembered : (m : Memory) (file : Option Ino) → All IsRemembered m.remembered → All IsRemembered (written_back_in m file).remembered
 written-remembered m None each = each
 written-remembered m (Some ino) each = by (inode_at m.known ino).file.unflushed (is_settled m.known ino)
@@ -105,6 +107,7 @@ record Stands (v : ClientValue) : Type 0 where
   request : IfSome v.request (IsRequestOf v.calls)
   asks : v.call ≡ None → v.request ≡ None
 
+-- it stands of a client
 stands-from : (v : ClientValue) → IsClient v → Stands v
 stands-from v is = record { tidy = is.sound.tidy; remembered = is.sound.remembered; call = is.call; request = is.request; asks = is.asks }
 
@@ -161,11 +164,12 @@ heard-stands v (Takes (Piece piece)) spelled free s = s
 heard-stands v (Takes (Wait number client)) spelled free s = record { tidy = s.tidy; remembered = s.remembered; call = s.call; request = s.request; asks = s.asks }
 heard-stands v (Takes Admit) spelled free s = record { tidy = s.tidy; remembered = s.remembered; call = s.call; request = s.request; asks = s.asks }
 
--- a step starts one call at most
+-- items that are taken start no call
 drops-calls : (b : Bool) (v : ClientValue) (known : Known) → (with_known (without_request_in b v) known).calls ≡ v.calls
 drops-calls true v known = refl
 drops-calls false v known = refl
 
+-- a client that hears starts one call at most
 pub heard-calls : (v : ClientValue) (turn : Turn) → (hears_in v turn).calls ≤ v.calls + 1
 unfolding hears_in
 heard-calls v Idles = omega arith

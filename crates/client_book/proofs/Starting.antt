@@ -24,16 +24,19 @@ all-same n i x = elim (cases_lt i n) as (λ _. get_or (replicate n x) i x ≡ x)
   | inr past ↦ get_or_past (replicate n x) i x (let long = length-replicate n x in omega (arith, long))
 ]
 
+-- nothing is known of any inode at first
 nothing-known : (ino : Ino) → inode_at first_known ino ≡ nothing_known
 unfolding first_known
 nothing-known ino = all-same 512 ino.0 nothing_known
 
+-- so nothing is held, in any class
 none-held : (cls : Class) → hold_in no_holds cls ≡ Nothing
 none-held Names = refl
 none-held Data = refl
 none-held Attr = refl
 none-held Open = refl
 
+-- its book is empty
 first-book : book_of first_known [] ≡ empty_book
 unfolding first_known
 first-book = same-books _ _ (λ ino cls. ap (λ inode. hold_in inode.holds cls) (nothing-known ino) ∙ none-held cls) refl refl (λ ino. ap (λ inode. inode.file.marks) (nothing-known ino)) refl

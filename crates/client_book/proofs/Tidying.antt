@@ -51,7 +51,7 @@ put-keeps P known at i inode here there = elim (cases_lt at.0 (length known.inod
     by false e = there
 
 -- nothing is both
-apart : {X : Type 0} → false ≡ true → X
+pub apart : {X : Type 0} → false ≡ true → X
 apart e = absurd (cc)
 
 -- numbers differ either way round
@@ -90,6 +90,7 @@ in-front : {X : Type 0} (a : Bool) (x y : X) (o p : Option X) → is_none (cond 
 in-front true x y o p e rest = e
 in-front false x y o p e rest = rest e
 
+-- where none is found, none is found behind the first
 none-behind : {X : Type 0} (a : Bool) (x : X) (o : Option X) → is_none (cond a (Some x) o) ≡ true → is_none o ≡ true
 none-behind true x o e = apart e
 none-behind false x o e = e
@@ -102,6 +103,7 @@ raised-file true Data hold flush = refl
 raised-file true Attr hold flush = refl
 raised-file true Open hold flush = refl
 
+-- where a file has no flush under way, it has none after flushes were made to leave other holds
 settles-raised : (ino : Ino) (cls : Class) (hold : Hold) (flushes : List Flush) (i : Ino) → is_none (find (is_flush_of i) flushes) ≡ true → is_none (find (is_flush_of i) (map (raised ino cls hold) flushes)) ≡ true
 settles-raised ino cls hold [] i e = refl
 settles-raised ino cls hold (flush ∷ flushes) i e =
@@ -131,7 +133,7 @@ tidy-started known flush unflushed tidy i e = by (nat_eq i.0 flush.ino.0) refl (
     by true same u = apart u
     by false same u = settles-more (is_flush_of i) known.flushes flush (tidy i u) (other-way i.0 flush.ino.0 same)
 
--- what is unflushed of a file was so before its hold became less, or content came
+-- what is unflushed of a file was so before its hold became less
 pub left-unflushed : (cls : Class) (hold : Hold) (inode : CachedInode) → (left_with cls hold inode).file.unflushed ≡ true → inode.file.unflushed ≡ true
 left-unflushed Names Nothing inode e = e
 left-unflushed Data Nothing inode e = apart e
@@ -140,6 +142,7 @@ left-unflushed Open Nothing inode e = e
 left-unflushed cls Read inode e = e
 left-unflushed cls Write inode e = e
 
+-- what is unflushed of a file was so before content came with a Grant
 content-unflushed : (content : Content) (inode : CachedInode) → (with_content inode content).file.unflushed ≡ true → inode.file.unflushed ≡ true
 content-unflushed Empty inode e = e
 content-unflushed (Entries entries) inode e = e
@@ -152,6 +155,7 @@ tidy-lowered known ino cls to tidy =
     tidy-put known ino (lowered cls to (inode_at known ino)) known.table known.flushes known.last_flush
     (λ u. tidy ino (left-unflushed cls _ (inode_at known ino) u)) (λ i settled. settled) tidy
 
+-- holds are lowered, one after the other
 pub tidy-all-lowered : (known : Known) (ino : Ino) (items : List (Class × Hold)) → IsTidy known → IsTidy (lower_all known ino items)
 unfolding lower_all
 tidy-all-lowered known ino [] tidy = tidy
@@ -164,6 +168,7 @@ tidy-taken known item tidy =
     (λ u. tidy item.ino (content-unflushed item.content (inode_at known item.ino) u))
     (λ i settled. settles-raised item.ino item.«class» (lesser_of item.hold Read) known.flushes i settled) tidy
 
+-- the items of a Grant are taken
 pub tidy-items : (known : Known) (items : List GrantItem) → IsTidy known → IsTidy (items_in known items)
 unfolding items_in
 tidy-items known [] tidy = tidy
@@ -184,7 +189,7 @@ tidy-flushed known number tidy = by (flush_numbered known number)
         (λ u. tidy flush.ino (left-unflushed Data flush.leave_data (inode_at known flush.ino) (left-unflushed Attr flush.leave_attr (left_with Data flush.leave_data (inode_at known flush.ino)) u)))
         (λ i settled. settles-fewer (is_flush_of i) (λ flush. not (is_numbered number flush)) known.flushes settled) tidy
 
--- a Revoke is taken
+-- a Revoke starts a flush only where something is unflushed
 flushes-where : (known : Known) (ino : Ino) (asked : List (Class × Hold)) → lowering_in known ino asked ≡ Flushes → (inode_at known ino).file.unflushed ≡ true
 flushes-where known ino asked e = by (is_empty (above_in known ino asked)) (is_settled known ino) (inode_at known ino).file.unflushed e
   where
@@ -194,6 +199,7 @@ flushes-where known ino asked e = by (is_empty (above_in known ino asked)) (is_s
     by false true true e = refl
     by false true false e = absurd (cc)
 
+-- a Revoke is taken
 pub tidy-revoked : (m : Memory) (ino : Ino) (asked : List (Class × Hold)) → IsTidy m.known → IsTidy (revoked_in m ino asked).known
 tidy-revoked m ino asked tidy = by (lowering_in m.known ino asked) refl
   where
@@ -203,6 +209,7 @@ tidy-revoked m ino asked tidy = by (lowering_in m.known ino asked) refl
     by Flushes e = tidy-started m.known (new_flush m.known ino _ _) (flushes-where m.known ino asked e) tidy
     by Lowers e = tidy-all-lowered m.known ino (above_in m.known ino asked) tidy
 
+-- Revokes are taken, one after the other
 pub tidy-all-revoked : (m : Memory) (list : List Revoke) → IsTidy m.known → IsTidy (revoked_all_in m list).known
 unfolding revoked_all_in
 tidy-all-revoked m [] tidy = tidy

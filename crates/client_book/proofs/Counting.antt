@@ -55,7 +55,7 @@ last-items known (item ∷ items) = last-items (item_in known item) items ∙ by
     by false = refl
 
 -- nor does the end of one
-last-flushed : (known : Known) (number : ℕ) → (after_flushed known number).last_flush ≡ known.last_flush
+pub last-flushed : (known : Known) (number : ℕ) → (after_flushed known number).last_flush ≡ known.last_flush
 last-flushed known number = by (flush_numbered known number)
   where
     by : (o : Option FlushRecord) → (without_flush known number o).last_flush ≡ known.last_flush
@@ -95,7 +95,7 @@ last-answered known (Readdir path) = refl
 last-answered known (Fsync fd) = refl
 
 -- a Revoke starts one flush at most
-last-revoked : (m : Memory) (ino : Ino) (asked : List (Class × Hold)) → (revoked_in m ino asked).known.last_flush ≤ m.known.last_flush + 1
+pub last-revoked : (m : Memory) (ino : Ino) (asked : List (Class × Hold)) → (revoked_in m ino asked).known.last_flush ≤ m.known.last_flush + 1
 last-revoked m ino asked = by (lowering_in m.known ino asked)
   where
     by : (l : Lowering) → (lowered_in l m ino (above_in m.known ino asked)).known.last_flush ≤ m.known.last_flush + 1

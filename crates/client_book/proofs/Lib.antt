@@ -8,8 +8,8 @@ mod Stepping
 pub mod Requesting
 pub mod Tidying
 mod Starting
-mod Sounding
-mod Counting
+pub mod Sounding
+pub mod Counting
 mod Amounts
 pub mod Fitting
 mod Saying

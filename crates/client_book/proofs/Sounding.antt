@@ -37,7 +37,7 @@ use Rattle.client_book.proofs.Requesting.{request-spelled}
 use Rattle.client_book.proofs.Tidying.{tidy-done, tidy-first, tidy-items, tidy-open, tidy-own, tidy-revoked, tidy-written-back}
 
 -- some of a list that aren't none are one at least
-some-of : {X : Type 0} (xs : List X) → is_empty xs ≡ false → 1 ≤ length xs
+pub some-of : {X : Type 0} (xs : List X) → is_empty xs ≡ false → 1 ≤ length xs
 some-of [] e = absurd (cc)
 some-of (x ∷ xs) e = omega arith
 
@@ -50,7 +50,7 @@ remembers-some known ino asked e = by (is_empty (above_in known ino asked)) (is_
     by false b c e = refl
 
 -- some of what a Revoke asks is a Revoke too
-revoke-fewer : (test : Class × Hold → Bool) (revoke : Revoked) → 1 ≤ length (filter test revoke.items) → IsRevoke revoke → IsRevoke (record { ino = revoke.ino; items = filter test revoke.items })
+pub revoke-fewer : (test : Class × Hold → Bool) (revoke : Revoked) → 1 ≤ length (filter test revoke.items) → IsRevoke revoke → IsRevoke (record { ino = revoke.ino; items = filter test revoke.items })
 revoke-fewer test revoke some is = record {
   some = some;
   few = (let fewer = count_by-le-length test revoke.items in let same = length-filter test revoke.items in let most = is.few in omega (arith, fewer, same, most));

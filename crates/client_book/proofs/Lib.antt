@@ -7,9 +7,9 @@ mod Reporting
 mod Stepping
 pub mod Requesting
 pub mod Tidying
-mod Starting
+pub mod Starting
 pub mod Sounding
 pub mod Counting
-mod Amounts
+pub mod Amounts
 pub mod Fitting
-mod Saying
+pub mod Saying

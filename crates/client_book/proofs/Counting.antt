@@ -219,7 +219,7 @@ last-dropped true v known = refl
 last-dropped false v known = refl
 
 -- a client that hears starts one flush at most
-last-heard : (v : ClientValue) (turn : Turn) → IsTidy v.memory.known → (hears_in v turn).memory.known.last_flush ≤ v.memory.known.last_flush + 1
+pub last-heard : (v : ClientValue) (turn : Turn) → IsTidy v.memory.known → (hears_in v turn).memory.known.last_flush ≤ v.memory.known.last_flush + 1
 unfolding hears_in
 last-heard v Idles tidy = omega arith
 last-heard v (Starts call) tidy = omega arith

@@ -164,6 +164,10 @@ heard-stands v (Takes (Piece piece)) spelled free s = s
 heard-stands v (Takes (Wait number client)) spelled free s = record { tidy = s.tidy; remembered = s.remembered; call = s.call; request = s.request; asks = s.asks }
 heard-stands v (Takes Admit) spelled free s = record { tidy = s.tidy; remembered = s.remembered; call = s.call; request = s.request; asks = s.asks }
 
+-- the outstanding call of a client that has heard what comes has a number and a spelling
+pub heard-calling : (v : ClientValue) (turn : Turn) → IsClient v → HasSpelling turn → IsFree v turn → IfSome (hears_in v turn).call (IsCalling (hears_in v turn).calls)
+heard-calling v turn is spelled free = (heard-stands v turn spelled free (stands-from v is)).call
+
 -- items that are taken start no call
 drops-calls : (b : Bool) (v : ClientValue) (known : Known) → (with_known (without_request_in b v) known).calls ≡ v.calls
 drops-calls true v known = refl

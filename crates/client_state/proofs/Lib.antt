@@ -1,0 +1,4 @@
+mod GoingOn
+mod Outgoing
+mod Heard
+mod InPieces

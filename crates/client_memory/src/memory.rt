@@ -124,6 +124,7 @@ impl Memory {
         ensures flushes { (ino : Inode) → result ≡ Flushes ino → (is_settled self.now.known ino ≡ true) × ((inode_at self.now.known ino).file.unflushed ≡ true) }
         ensures known { IsKnown self.now.known }
     {
+        // What the cache's type keeps is told by this call.
         let _ = self.cache.last_flush();
         self.cache.next(call)
     }
@@ -144,6 +145,7 @@ impl Memory {
         ensures value { IfOk result (λ want. want ≡ want_of self.now.known.table call.now) }
         ensures known { IsKnown self.now.known }
     {
+        // What the cache's type keeps is told by this call.
         let _ = self.cache.last_flush();
         let want = self.cache.want(call)?;
         Ok(want)

@@ -1,0 +1,4 @@
+mod Waiting
+mod Numbering
+pub mod Hearing
+pub mod Sending

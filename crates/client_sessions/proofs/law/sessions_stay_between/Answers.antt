@@ -1,0 +1,20 @@
+use Rattle.client_sessions.proofs.Between.{first-between, hearing-between, sending-between, sent-between}
+use Rattle.client_sessions.proofs.law.sessions_stay_between.Goals as goal
+
+pub returns-clause-first : goal.returns-clause-first
+returns-clause-first c = first-between
+
+pub returns-clause-hearing : goal.returns-clause-hearing
+returns-clause-hearing c = hearing-between
+
+pub returns-clause-sending : goal.returns-clause-sending
+returns-clause-sending c = sending-between
+
+pub returns-clause-resending : goal.returns-clause-resending
+returns-clause-resending c = λ server view m client. sent-between server view m _
+
+pub returns-clause-acknowledging : goal.returns-clause-acknowledging
+returns-clause-acknowledging c = λ server view m client. sent-between server view m _
+
+pub returns-clause-taking : goal.returns-clause-taking
+returns-clause-taking c = λ server view m. sent-between server view m _

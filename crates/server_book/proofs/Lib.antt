@@ -1,2 +1,5 @@
 pub mod Faces
 pub mod Deciding
+pub mod SameTables
+pub mod SameAsked
+pub mod Moving

@@ -1,4 +1,4 @@
-//! Servers that hold the same decide the same.
+//! Servers that hold the same decide the same, and go on so.
 ghost use Rattle.std.specs.Prelude.{◌≡◌, ℕ, Bool, List, Option};
 ghost use Rattle.cal_base.specs.declared.identity.ClientId.{ClientId};
 ghost use Rattle.cal_base.specs.declared.identity.Ino.{Ino};
@@ -14,7 +14,7 @@ ghost use Rattle.cluster_law.specs.Blocking.{blocks, blocks_for, lacking, lacks_
 ghost use Rattle.cluster_law.specs.Granting.{head};
 ghost use Rattle.cluster_law.specs.Lanes.{Act};
 ghost use Rattle.cluster_law.specs.Removing.{due};
-ghost use Rattle.cluster_law.specs.ServerState.{ServerState, is_admitted, uses};
+ghost use Rattle.cluster_law.specs.ServerState.{ServerState, after_act, after_acts, hearing, is_admitted, uses};
 ghost use Rattle.server_book.specs.Alike.{Alike};
 
 /// Alike servers decide alike: whom they wait for, ask and admit, which messages they use, what a client lacks,
@@ -37,4 +37,11 @@ pub fn alike_servers_decide_alike()
     ensures purged { (a b : ServerState) (gone : ClientId → Bool) → Alike a b → due gone a ≡ due gone b }
     ensures orphan { (a b : ServerState) → Alike a b → deserted a ≡ deserted b }
     ensures holders { (a b : ServerState) (orphan : Option Ino) → Alike a b → holders_of a orphan ≡ holders_of b orphan }
+{}
+
+/// Alike servers go on alike, with each message that they hear and with each act.
+pub fn alike_servers_go_on_alike()
+    ensures hear { (a b : ServerState) (client : ClientId) (message : Message) → Alike a b → Alike (hearing a client message) (hearing b client message) }
+    ensures act { (a b : ServerState) (act : Act) → Alike a b → Alike (after_act a act) (after_act b act) }
+    ensures all { (a b : ServerState) (acts : List Act) → Alike a b → Alike (after_acts a acts) (after_acts b acts) }
 {}

@@ -3,3 +3,6 @@ pub mod Deciding
 pub mod SameTables
 pub mod SameAsked
 pub mod Moving
+pub mod Granted
+pub mod Keeping
+pub mod Ending

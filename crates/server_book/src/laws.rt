@@ -1,9 +1,10 @@
-//! Servers that hold the same decide the same, and go on so.
+//! Servers that hold the same decide the same, go on so, and keep the same rules.
 ghost use Rattle.std.specs.Prelude.{◌≡◌, ℕ, Bool, List, Option};
 ghost use Rattle.cal_base.specs.declared.identity.ClientId.{ClientId};
 ghost use Rattle.cal_base.specs.declared.identity.Ino.{Ino};
 ghost use Rattle.message.specs.declared.message.Message.{Message};
 ghost use Rattle.rebuild.specs.Collecting.{missing_of, next_of};
+ghost use Rattle.token_kind.specs.declared.block.Block.{Block};
 ghost use Rattle.token_kind.specs.declared.blocker.Blocker.{Blocker};
 ghost use Rattle.tree_law.specs.declared.call.Call.{Call};
 ghost use Rattle.tree_law.specs.declared.request.Asked.{Asked};
@@ -14,6 +15,7 @@ ghost use Rattle.cluster_law.specs.Blocking.{blocks, blocks_for, lacking, lacks_
 ghost use Rattle.cluster_law.specs.Granting.{head};
 ghost use Rattle.cluster_law.specs.Lanes.{Act};
 ghost use Rattle.cluster_law.specs.Removing.{due};
+ghost use Rattle.cluster_law.specs.ServerRules.{ActsWell, EachAct, EndsWell, Occasion};
 ghost use Rattle.cluster_law.specs.ServerState.{ServerState, after_act, after_acts, hearing, is_admitted, uses};
 ghost use Rattle.server_book.specs.Alike.{Alike};
 
@@ -44,4 +46,12 @@ pub fn alike_servers_go_on_alike()
     ensures hear { (a b : ServerState) (client : ClientId) (message : Message) → Alike a b → Alike (hearing a client message) (hearing b client message) }
     ensures act { (a b : ServerState) (act : Act) → Alike a b → Alike (after_act a act) (after_act b act) }
     ensures all { (a b : ServerState) (acts : List Act) → Alike a b → Alike (after_acts a acts) (after_acts b acts) }
+{}
+
+/// Alike servers keep the same rules: an act that is right in one is right in the other, so all acts of a step
+/// are; and what one owes at the end of a step it has done where the other has.
+pub fn alike_servers_keep_the_same_rules()
+    ensures act { (o : Occasion) (start other a b : ServerState) (before : List Act) (act : Act) → Alike start other → Alike a b → ActsWell o start a before act → ActsWell o other b before act }
+    ensures all { (o : Occasion) (start other : ServerState) (acts : List Act) → Alike start other → EachAct start (ActsWell o start) acts → EachAct other (ActsWell o other) acts }
+    ensures ends { (o : Occasion) (start other : ServerState) (acts : List Act) (named : Option Block) → Alike start other → EndsWell o start acts named → EndsWell o other acts named }
 {}

@@ -1,3 +1,4 @@
 mod Counts
 mod Sending
 mod Turns
+mod Covered

@@ -1,5 +1,5 @@
 -- A step of a client: the packets that it sends, and what else it gives.
-use Rattle.std.specs.Prelude.{◌≡◌, ◌+◌, ◌++◌, ◌∷◌, [], ◌&&◌, ℕ, Bool, false, if◌then◌else◌, nat_lt, List, Option, Some, None, map}
+use Rattle.std.specs.Prelude.{◌≡◌, ◌+◌, ◌++◌, ◌∷◌, [], ◌&&◌, ℕ, Bool, false, true, if◌then◌else◌, nat_lt, List, Option, Some, None, map}
 use Rattle.message.specs.declared.message.Message.{Message}
 use Rattle.std.specs.Option.{option_to_list}
 use Rattle.cal_base.specs.declared.identity.ClientId.{ClientId}
@@ -9,7 +9,10 @@ use Rattle.session.specs.declared.packet.Packet.{Packet}
 use Rattle.cluster_law.specs.ClientRules.{answer_with, own_entry}
 use Rattle.cluster_law.specs.Ends.{making}
 use Rattle.cluster_law.specs.Lists.{is_empty}
+use Rattle.client_cache.specs.Covered.{covered}
+use Rattle.tree_law.specs.declared.call.Call.{Call}
 use Rattle.tree_law.specs.declared.entry.Entry.{Entry}
+use Rattle.client_book.specs.Booked.{sight_of}
 use Rattle.client_state.specs.declared.made.Finished.{Finished}
 use Rattle.cluster_law.specs.declared.step.Answer.{Answer}
 use Rattle.cluster_law.specs.declared.node.ClientInput.{ClientInput}
@@ -87,6 +90,17 @@ pub record Gives (n : NodeValue) (input : ClientInput) (output : ClientOutput) :
   pub sent : output.sent ≡ sent_in n input
   pub answer : output.answer ≡ answer_with (client_in n input).calls (reply_at n.client (turn_in n input))
   pub entry : option_to_list output.entry ≡ own_entry n.id.0 (client_in n input).calls (hears_in n.client (turn_in n input)).call (reply_at n.client (turn_in n input))
+
+-- a call that is covered where it starts is answered in that step, by what is held and without a packet
+pub record IsAnsweredAtOnce (n : NodeValue) (call : Call) (output : ClientOutput) : Type 0 where
+  pub sent : output.sent ≡ []
+  pub answer : output.answer ≡ Some (record { number = (client_in n (Start call)).calls; reply = (sight_of n.client.memory.known).reply call })
+
+abbrev pub AnswersCovered : NodeValue → ClientInput → ClientOutput → Type 0
+AnswersCovered n (Start call) output = covered n.client.memory.known call ≡ true → IsAnsweredAtOnce n call output
+AnswersCovered n (Comes p) output = Unit {0}
+AnswersCovered n Tick output = Unit {0}
+AnswersCovered n (WriteBack fd) output = Unit {0}
 
 -- a client of this session that hears a packet with this message
 abbrev pub bodies_for : NodeValue → Packet → Option Message → List (List ℕ)

@@ -8,7 +8,7 @@ ghost use Rattle.session.specs.Session.{new_session, unacknowledged};
 ghost use Rattle.client_book.specs.Sound.{IsCall, KeepsLaw, MayCome, first_value};
 ghost use Rattle.client_book.specs.Made.{messages_in};
 ghost use Rattle.client_node.specs.Node.{turn_in, MayStart};
-ghost use Rattle.client_node.specs.Step.{Gives, client_in, node_after};
+ghost use Rattle.client_node.specs.Step.{AnswersCovered, Gives, node_after};
 
 use crate::ends::Ends;
 use cal_base::{ClientId, NodeId, Oom, ServerId, View};
@@ -51,12 +51,13 @@ impl ClientNode {
     /// A packet of the session is heard; one of a higher view only if it is the first of that view's session, an
     /// Ask of its server, and it moves the client there. Any other packet does nothing, and bytes that are no
     /// message are taken and come to nothing.
-    #[tactic(auto, using(crate::proofs::Counts::node_stays, crate::proofs::Counts::step_keeps))]
+    #[tactic(auto, using(crate::proofs::Counts::node_stays, crate::proofs::Counts::step_keeps, crate::proofs::Covered::at_once))]
     pub fn step(self, input: ClientInput) -> Result<(ClientNode, ClientOutput), Oom>
         requires steps { self.steps < 2 ^ 48 }
         requires call { MayStart self input }
         ensures state { IfOk result (λ made. made.0 ≡ node_after self input) }
         ensures gives { IfOk result (λ made. Gives self input made.1) }
+        ensures covered { IfOk result (λ made. AnswersCovered self input made.1) }
         ensures law { IfOk result (λ made. MayCome self.client (turn_in self input)
             → KeepsLaw self.id.0 self.client made.0.client (turn_in self input) (messages_in self.client (turn_in self input)) made.1.answer (option_to_list made.1.entry)) }
     {

@@ -1,24 +1,21 @@
 -- A covered call is answered in the step that starts it.
-use Rattle.std.proofs.Common.{◌≡◌, ◌++◌, [], ℕ, Bool, true, false, if◌then◌else◌, List, Option, Some, None, ap, refl, sym, ◌∙◌, map}
+use Rattle.std.proofs.Common.{◌≡◌, ◌++◌, [], Bool, true, false, if◌then◌else◌, Some, ap, refl, ◌∙◌, map}
 use Rattle.client_cache.specs.Covered.{covered}
 use Rattle.client_cache.specs.Known.{Known}
 use Rattle.client_cache.specs.Next.{next_of as next_known, next_uncovered}
-use Rattle.client_cache.specs.declared.next_step.Next.{Next}
 use Rattle.client_cache.specs.declared.next_step.Next.TheVariants.{Answer}
 use Rattle.message.specs.Spelling.{message_bytes}
-use Rattle.message.specs.declared.message.Message.{Message}
 use Rattle.tree_law.specs.declared.call.Call.{Call}
-use Rattle.tree_law.specs.declared.reply.Reply.{Reply}
 use Rattle.cluster_law.specs.ClientRules.{answer_with}
 use Rattle.cluster_law.specs.ClientState.{Starts, own_reply}
 use Rattle.cluster_law.specs.declared.node.ClientInput.{ClientInput}
 use Rattle.cluster_law.specs.declared.node.ClientInput.TheVariants.{Start, Packet as Comes, Tick, WriteBack}
 use Rattle.cluster_law.specs.declared.node.ClientOutput.{ClientOutput}
 use Rattle.client_book.specs.Booked.{sight_of}
-use Rattle.client_book.specs.Client.{ClientValue, hears_in, value_after}
+use Rattle.client_book.specs.Client.{ClientValue, hears_in}
 use Rattle.client_book.specs.Made.{messages_in, reply_at, sendable_in, trying_in}
 use Rattle.client_node.specs.Node.{NodeValue, hearing_at, turn_in}
-use Rattle.client_node.specs.Step.{AnswersCovered, Gives, client_in, packets_of, sent_in}
+use Rattle.client_node.specs.Step.{AnswersCovered, Gives, client_in, packets_with, sent_in}
 
 -- what is done with it is to answer it
 answers : (known : Known) (call : Call) → covered known call ≡ true → next_known known call ≡ Answer
@@ -40,9 +37,9 @@ own-answer v call is = ap (own_reply (sight_of v.memory.known) call) (answers v.
 
 -- so a step that starts it sends nothing and answers it
 pub at_once : (n : NodeValue) (input : ClientInput) (output : ClientOutput) → Gives n input output → AnswersCovered n input output
-unfolding sent_in turn_in hearing_at packets_of
+unfolding sent_in turn_in hearing_at packets_with
 at_once n (Start call) output gives = λ is. record {
-  sent = gives.sent ∙ ap (λ messages. packets_of n.session (map message_bytes messages) ++ []) (no-message n.client call is);
+  sent = gives.sent ∙ ap (λ messages. packets_with n.session (map message_bytes messages) ++ []) (no-message n.client call is);
   answer = gives.answer ∙ ap (answer_with (client_in n (Start call)).calls) (own-answer n.client call is);
 }
 at_once n (Comes p) output gives = record {}

@@ -5,7 +5,7 @@ use Rattle.std.proofs.lemmas.List.{append_assoc, append-nil}
 use Rattle.session.specs.Session.{SessionState, after_send, sent_packet}
 use Rattle.session.specs.declared.packet.Packet.{Packet}
 use Rattle.cluster_law.specs.Ends.{making}
-use Rattle.client_node.specs.Step.{packets_of}
+use Rattle.client_node.specs.Step.{packets_with}
 
 -- a body more is handed over
 pub making-more : (s after : SessionState) (body : List ℕ) (bodies rest : List (List ℕ)) → bodies ≡ body ∷ rest → after ≡ after_send s body → making after rest ≡ making s bodies
@@ -13,21 +13,21 @@ making-more s after body bodies rest e made = ap (λ (k : SessionState). making 
 
 -- its packet goes out before those of the rest
 pub packets-more : (s after : SessionState) (old new : List Packet) (body : List ℕ) (bodies rest : List (List ℕ)) → bodies ≡ body ∷ rest → after ≡ after_send s body → new ≡ old ++ option_to_list (sent_packet s body)
-    → new ++ packets_of after rest ≡ old ++ packets_of s bodies
-unfolding packets_of
+    → new ++ packets_with after rest ≡ old ++ packets_with s bodies
+unfolding packets_with
 packets-more s after old new body bodies rest e made put =
-    ap (λ (list : List Packet). list ++ packets_of after rest) put
-    ∙ ap (λ (k : SessionState). old ++ option_to_list (sent_packet s body) ++ packets_of k rest) made
-    ∙ append_assoc old (option_to_list (sent_packet s body)) (packets_of (after_send s body) rest)
-    ∙ ap (λ (list : List (List ℕ)). old ++ packets_of s list) (sym e)
+    ap (λ (list : List Packet). list ++ packets_with after rest) put
+    ∙ ap (λ (k : SessionState). old ++ option_to_list (sent_packet s body) ++ packets_with k rest) made
+    ∙ append_assoc old (option_to_list (sent_packet s body)) (packets_with (after_send s body) rest)
+    ∙ ap (λ (list : List (List ℕ)). old ++ packets_with s list) (sym e)
 
 -- and none are left at the end
 pub making-all : (s : SessionState) (bodies : List (List ℕ)) → bodies ≡ [] → making s bodies ≡ s
 making-all s bodies e = ap (making s) e
 
-pub packets-all : (s : SessionState) (old : List Packet) (bodies : List (List ℕ)) → bodies ≡ [] → old ++ packets_of s bodies ≡ old
-unfolding packets_of
-packets-all s old bodies e = ap (λ (list : List (List ℕ)). old ++ packets_of s list) e ∙ append-nil old
+pub packets-all : (s : SessionState) (old : List Packet) (bodies : List (List ℕ)) → bodies ≡ [] → old ++ packets_with s bodies ≡ old
+unfolding packets_with
+packets-all s old bodies e = ap (λ (list : List (List ℕ)). old ++ packets_with s list) e ∙ append-nil old
 
 -- a session has room for the rest
 pub room-more : (s after : SessionState) (body : List ℕ) (left rest : ℕ) → left ≡ rest + 1 → after ≡ after_send s body → s.steps + left < 2 ^ 60 → after.steps + rest < 2 ^ 60

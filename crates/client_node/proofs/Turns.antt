@@ -22,7 +22,7 @@ use Rattle.client_book.specs.Made.{messages_in, reply_at, reply_to_in, sendable_
 use Rattle.client_state.specs.Working.{finished_at, finished_with, made_at}
 use Rattle.client_state.specs.declared.made.Made.{Made}
 use Rattle.client_node.specs.Node.{NodeValue, brought, hearing_at, message_in, session_for, takes_next, turn_in}
-use Rattle.client_node.specs.Step.{Gives, GivesBack, answer_for, bare_if, entry_for, goes_on_at, hears_packet, packets_of, sent_in}
+use Rattle.client_node.specs.Step.{Gives, GivesBack, answer_for, bare_if, entry_for, goes_on_at, hears_packet, packets_with, sent_in}
 
 -- a client to which nothing comes is as it was
 pub idle_value : (v : ClientValue) → value_after v Idles ≡ v
@@ -68,17 +68,17 @@ unfolding turn_in hearing_at
 ticks_on n = sym (λ i. record { id = n.id; session = making n.session (map message_bytes (idle_messages n.client i)); client = idle_value n.client i; steps = n.steps })
 
 -- the packets of a step that hears no packet
-pub sent_start : (n : NodeValue) (call : Call) → packets_of n.session (map message_bytes (messages_in n.client (Starts call))) ≡ sent_in n (Start call)
+pub sent_start : (n : NodeValue) (call : Call) → packets_with n.session (map message_bytes (messages_in n.client (Starts call))) ≡ sent_in n (Start call)
 unfolding sent_in turn_in hearing_at
 sent_start n call = sym (append-nil _)
 
-pub sent_write_back : (n : NodeValue) (fd : ℕ) → packets_of n.session (map message_bytes (messages_in n.client (WritesBack fd))) ≡ sent_in n (WriteBack fd)
+pub sent_write_back : (n : NodeValue) (fd : ℕ) → packets_with n.session (map message_bytes (messages_in n.client (WritesBack fd))) ≡ sent_in n (WriteBack fd)
 unfolding sent_in turn_in hearing_at
 sent_write_back n fd = sym (append-nil _)
 
 pub sent_tick : (n : NodeValue) → option_to_list (tick_packet n.session) ≡ sent_in n Tick
-unfolding sent_in turn_in hearing_at packets_of
-sent_tick n = sym (append-nil _ ∙ ap (λ (messages : List Message). option_to_list (tick_packet n.session) ++ packets_of n.session (map message_bytes messages)) (idle_messages n.client) ∙ append-nil _)
+unfolding sent_in turn_in hearing_at packets_with
+sent_tick n = sym (append-nil _ ∙ ap (λ (messages : List Message). option_to_list (tick_packet n.session) ++ packets_with n.session (map message_bytes messages)) (idle_messages n.client) ∙ append-nil _)
 
 -- where no call is outstanding there is no reply
 no-call : (try : Bool) (reply : Option Reply) (v : ClientValue) (o : Option Call) → finished_with o (reply_to_in try reply v o) ≡ None → reply_to_in try reply v o ≡ None
@@ -129,19 +129,19 @@ entry-made client v after turn made e is =
 
 -- what a step gives that starts a call, or writes a file back, by the client after it and what it made
 pub gives_start : (n : NodeValue) (call : Call) (after : ClientValue) (made : Made) (first : List Packet) (output : ClientOutput) → after ≡ value_after n.client (Starts call) → made ≡ made_at n.client (Starts call)
-    → first ≡ [] → output.sent ≡ first ++ packets_of n.session made.bodies → output.answer ≡ answer_for after.calls made.finished → option_to_list output.entry ≡ entry_for n.id after.calls made.finished → Gives n (Start call) output
+    → first ≡ [] → output.sent ≡ first ++ packets_with n.session made.bodies → output.answer ≡ answer_for after.calls made.finished → option_to_list output.entry ≡ entry_for n.id after.calls made.finished → Gives n (Start call) output
 unfolding turn_in
 gives_start n call after made first output e is none sent answer entry = record {
-  sent = sent ∙ ap (λ (list : List Packet). list ++ packets_of n.session made.bodies) none ∙ ap (λ (m : Made). packets_of n.session m.bodies) is ∙ sent_start n call;
+  sent = sent ∙ ap (λ (list : List Packet). list ++ packets_with n.session made.bodies) none ∙ ap (λ (m : Made). packets_with n.session m.bodies) is ∙ sent_start n call;
   answer = answer ∙ answer-made n.client after (Starts call) made e is;
   entry = entry ∙ entry-made n.id n.client after (Starts call) made e is;
 }
 
 pub gives_write_back : (n : NodeValue) (fd : ℕ) (after : ClientValue) (made : Made) (first : List Packet) (output : ClientOutput) → after ≡ value_after n.client (WritesBack fd) → made ≡ made_at n.client (WritesBack fd)
-    → first ≡ [] → output.sent ≡ first ++ packets_of n.session made.bodies → output.answer ≡ answer_for after.calls made.finished → option_to_list output.entry ≡ entry_for n.id after.calls made.finished → Gives n (WriteBack fd) output
+    → first ≡ [] → output.sent ≡ first ++ packets_with n.session made.bodies → output.answer ≡ answer_for after.calls made.finished → option_to_list output.entry ≡ entry_for n.id after.calls made.finished → Gives n (WriteBack fd) output
 unfolding turn_in
 gives_write_back n fd after made first output e is none sent answer entry = record {
-  sent = sent ∙ ap (λ (list : List Packet). list ++ packets_of n.session made.bodies) none ∙ ap (λ (m : Made). packets_of n.session m.bodies) is ∙ sent_write_back n fd;
+  sent = sent ∙ ap (λ (list : List Packet). list ++ packets_with n.session made.bodies) none ∙ ap (λ (m : Made). packets_with n.session m.bodies) is ∙ sent_write_back n fd;
   answer = answer ∙ answer-made n.client after (WritesBack fd) made e is;
   entry = entry ∙ entry-made n.id n.client after (WritesBack fd) made e is;
 }
@@ -162,12 +162,12 @@ gives_tick n output sent answer entry = record {
 -- what a client gives that hears a packet in its session, by the packets that went out before the bare acknowledgement
 pub gives_back : (n : NodeValue) (p : Packet) (message : Option Message) (after : ClientValue) (made : Made) (first : List Packet) (output : ClientOutput)
     → after ≡ value_after n.client (brought n.session p message) → made ≡ made_at n.client (brought n.session p message)
-    → first ≡ let_out n.session p ++ packets_of (heard n.session p) made.bodies
+    → first ≡ let_out n.session p ++ packets_with (heard n.session p) made.bodies
     → output.sent ≡ first ++ bare_if (is_of_session n.session p && nat_lt 0 p.seq) first (bare_ack_of (heard n.session p))
     → output.answer ≡ answer_for after.calls made.finished → option_to_list output.entry ≡ entry_for n.id after.calls made.finished → GivesBack n p message output
 gives_back n p message after made first output e is before sent answer entry = record {
   sent = sent ∙ ap (λ (list : List Packet). list ++ bare_if (is_of_session n.session p && nat_lt 0 p.seq) list (bare_ack_of (heard n.session p)))
-      (before ∙ ap (λ (m : Made). let_out n.session p ++ packets_of (heard n.session p) m.bodies) is);
+      (before ∙ ap (λ (m : Made). let_out n.session p ++ packets_with (heard n.session p) m.bodies) is);
   answer = answer ∙ answer-made n.client after (brought n.session p message) made e is;
   entry = entry ∙ entry-made n.id n.client after (brought n.session p message) made e is;
 }
@@ -176,7 +176,7 @@ gives_back n p message after made first output e is before sent answer entry = r
 pub gives_by : (n between : NodeValue) (p : Packet) (message : Option Message) (s : SessionState) (body : Option (List ℕ)) (next owes : Bool) (bare : Packet) (opened first : List Packet) (made : Made) (output : ClientOutput)
     → owes ≡ (is_of_session n.session p && nat_lt 0 p.seq) → s ≡ heard n.session p → body ≡ body_of n.session p → opened ≡ let_out n.session p → bare ≡ bare_ack_of s → next ≡ is_some body
     → between ≡ record { id = n.id; session = s; client = value_after n.client (takes_next next message); steps = n.steps } → made ≡ made_at n.client (takes_next next message)
-    → first ≡ opened ++ packets_of between.session made.bodies → output.sent ≡ first ++ bare_if owes first bare
+    → first ≡ opened ++ packets_with between.session made.bodies → output.sent ≡ first ++ bare_if owes first bare
     → output.answer ≡ answer_for between.client.calls made.finished → option_to_list output.entry ≡ entry_for between.id between.client.calls made.finished → GivesBack n p message output
 gives_by n between p message s body next owes bare opened first made output owed heard_is body_is opened_is bare_is next_is here made_is before sent answer entry =
     let turn : takes_next next message ≡ brought n.session p message = ap (λ (b : Bool). takes_next b message) (next_is ∙ ap (λ (o : Option (List ℕ)). is_some o) body_is) in
@@ -185,7 +185,7 @@ gives_by n between p message s body next owes bare opened first made output owed
     let id : between.id ≡ n.id = ap (λ (k : NodeValue). k.id) here in
     let bare : bare ≡ bare_ack_of (heard n.session p) = bare_is ∙ ap (λ (k : SessionState). bare_ack_of k) heard_is in
     gives_back n p message between.client made first output client (made_is ∙ ap (made_at n.client) turn)
-    (before ∙ (λ i. opened_is i ++ packets_of (session i) made.bodies))
+    (before ∙ (λ i. opened_is i ++ packets_with (session i) made.bodies))
     (sent ∙ (λ i. first ++ bare_if (owed i) first (bare i)))
     answer
     (entry ∙ ap (λ (k : ClientId). entry_for k between.client.calls made.finished) id)

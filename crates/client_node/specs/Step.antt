@@ -4,11 +4,12 @@ use Rattle.message.specs.declared.message.Message.{Message}
 use Rattle.std.specs.Option.{option_to_list}
 use Rattle.cal_base.specs.declared.identity.ClientId.{ClientId}
 use Rattle.message.specs.Spelling.{message_bytes}
-use Rattle.session.specs.Session.{SessionState, after_send, bare_ack_of, heard, is_of_session, let_out, sent_packet, tick_packet}
+use Rattle.session.specs.Session.{bare_ack_of, heard, is_of_session, let_out, tick_packet}
 use Rattle.session.specs.declared.packet.Packet.{Packet}
 use Rattle.cluster_law.specs.ClientRules.{answer_with, own_entry}
 use Rattle.cluster_law.specs.Ends.{making}
 use Rattle.cluster_law.specs.Lists.{is_empty}
+unfoldable pub use Rattle.lane_facts.specs.Speaking.{packets_with}
 use Rattle.client_cache.specs.Covered.{covered}
 use Rattle.tree_law.specs.declared.call.Call.{Call}
 use Rattle.tree_law.specs.declared.entry.Entry.{Entry}
@@ -50,12 +51,8 @@ opened n (Comes p) = let_out (session_for n p) p
 opened n Tick = []
 opened n (WriteBack fd) = []
 
-unfoldable pub packets_of : SessionState → List (List ℕ) → List Packet
-packets_of s [] = []
-packets_of s (body ∷ bodies) = option_to_list (sent_packet s body) ++ packets_of (after_send s body) bodies
-
 abbrev pub fresh : NodeValue → ClientInput → List Packet
-fresh n input = opened n input ++ packets_of (hearing_at n input) (bodies_in n input)
+fresh n input = opened n input ++ packets_with (hearing_at n input) (bodies_in n input)
 
 -- a packet with a number is heard
 abbrev pub has_heard : NodeValue → ClientInput → Bool
@@ -110,7 +107,7 @@ abbrev pub hears_packet : NodeValue → Packet → Option Message → NodeValue
 hears_packet n p message = record { id = n.id; session = making (heard n.session p) (bodies_for n p message); client = value_after n.client (brought n.session p message); steps = n.steps }
 
 abbrev pub let_go : NodeValue → Packet → Option Message → List Packet
-let_go n p message = let_out n.session p ++ packets_of (heard n.session p) (bodies_for n p message)
+let_go n p message = let_out n.session p ++ packets_with (heard n.session p) (bodies_for n p message)
 
 -- what that gives
 pub record GivesBack (n : NodeValue) (p : Packet) (message : Option Message) (output : ClientOutput) : Type 0 where

@@ -8,7 +8,7 @@ ghost use Rattle.cluster_law.specs.Ends.{making};
 ghost use Rattle.cluster_law.specs.declared.node.ClientInput.TheVariants.{Start, Tick, WriteBack};
 ghost use Rattle.client_book.specs.Sound.{HasSpelling, first_value};
 ghost use Rattle.client_node.specs.Node.{IsNode, MayStart, turn_in};
-ghost use Rattle.client_node.specs.Step.{Gives, answer_for, entry_for, goes_on_at, node_after, packets_of};
+ghost use Rattle.client_node.specs.Step.{Gives, answer_for, entry_for, goes_on_at, node_after, packets_with};
 
 use crate::outgoing::{output, send_all};
 use cal_base::{ClientId, Items, NodeId, Oom, ServerId, View};
@@ -140,7 +140,7 @@ impl Ends {
     pub(crate) fn send(&mut self, opened: Items<Packet>, made: Made) -> Result<ClientOutput, Oom>
         requires { self.old.session.steps + length made.bodies < 2 ^ 60 }
         ensures state { OnOk result (self.new ≡ record self.old { session = making self.old.session made.bodies }) }
-        ensures sent { IfOk result (λ output. output.sent ≡ opened ++ packets_of self.old.session made.bodies) }
+        ensures sent { IfOk result (λ output. output.sent ≡ opened ++ packets_with self.old.session made.bodies) }
         ensures answer { IfOk result (λ output. output.answer ≡ answer_for self.old.client.calls made.finished) }
         ensures entry { IfOk result (λ output. option_to_list output.entry ≡ entry_for self.old.id self.old.client.calls made.finished) }
     {

@@ -4,7 +4,7 @@ ghost use Rattle.session.specs.Session.{after_send, sent_packet};
 ghost use Rattle.cluster_law.specs.ClientRules.{own_entry};
 ghost use Rattle.cluster_law.specs.Ends.{making};
 ghost use Rattle.cluster_law.specs.Lists.{is_empty};
-ghost use Rattle.client_node.specs.Step.{answer_for, bare_if, entry_for, packets_of};
+ghost use Rattle.client_node.specs.Step.{answer_for, bare_if, entry_for, packets_with};
 
 use cal_base::{Blob, ClientId, Items, Oom};
 use client_state::{Finished, is_change};
@@ -13,7 +13,7 @@ use session::{Packet, Session};
 use tree_law::{Call, Entry, Reply};
 
 /// Hands bodies to a session, one after the other, and puts the packets that go out behind others.
-#[tactic(auto, unfolding(crate::specs::Step::packets_of))]
+#[tactic(auto, unfolding(lane_facts::specs::Speaking::packets_with))]
 pub(crate) fn send_all(
     session: &mut Session,
     sent: &mut Items<Packet>,
@@ -21,7 +21,7 @@ pub(crate) fn send_all(
 ) -> Result<(), Oom>
     requires { session.old.steps + length bodies.items < 2 ^ 60 }
     ensures session { OnOk result (session.new ≡ making session.old bodies.items) }
-    ensures sent { OnOk result (sent.new ≡ sent.old ++ packets_of session.old bodies.items) }
+    ensures sent { OnOk result (sent.new ≡ sent.old ++ packets_with session.old bodies.items) }
 {
     for body in bodies {
         send_one(session, sent, body)?;

@@ -13,7 +13,8 @@ use std::alloc::Global;
 use std::marker::Model;
 use std::mem;
 
-/// A server's ends of the sessions with the 16 clients, and the packets that a step sends.
+/// A server's ends of the sessions with the 16 clients, and the packets that a step sends. After want of memory in
+/// a call nothing is promised of them.
 #[derive(Drop)]
 pub struct ClientSessions {
     alloc: Global,

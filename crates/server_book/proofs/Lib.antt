@@ -6,3 +6,5 @@ pub mod Moving
 pub mod Granted
 pub mod Keeping
 pub mod Ending
+pub mod Fitting
+pub mod Bridging

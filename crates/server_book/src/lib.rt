@@ -3,11 +3,14 @@
 //! The law has a server's table and what it asks back as lists that grow at the front; a server may keep them
 //! in any lists that hold the same. Servers that hold the same are alike (`Alike`, specs/Alike), and decide
 //! the same ([`alike_servers_decide_alike`]), go on alike ([`alike_servers_go_on_alike`]) and keep the same
-//! rules ([`alike_servers_keep_the_same_rules`]).
+//! rules ([`alike_servers_keep_the_same_rules`]). Where a server's parts do what they promise, it is alike the
+//! law's next ([`parts_change_as_the_law`], [`one_by_one_is_together`]).
 #![tactic(auto)]
 
+mod bridges;
 mod laws;
 
+pub use bridges::{one_by_one_is_together, parts_change_as_the_law};
 pub use laws::{
     alike_servers_decide_alike, alike_servers_go_on_alike, alike_servers_keep_the_same_rules,
 };

@@ -36,7 +36,6 @@ impl Model for ClientNode {
 
 impl ClientNode {
     /// A client that has done nothing yet, in view 1, whose server is A and has admitted it.
-    #[tactic(auto, using(crate::proofs::Counts::first_node))]
     pub fn new(alloc: Global, id: ClientId) -> Result<ClientNode, Oom>
         ensures { IfOk result (λ node. node ≡ record { id = id; session = new_session (Client id) (Server A) (record { 0 = 1 }); client = first_value; steps = 0 }) }
     {

@@ -86,7 +86,7 @@ impl Ends {
         }
     }
 
-    #[tactic(auto, unfolding(crate::specs::Node::turn_in, crate::specs::Node::hearing_at), using(crate::proofs::Counts::calls_room, crate::proofs::Counts::flushes_room, crate::proofs::Counts::start_room, crate::proofs::Turns::gives_start))]
+    #[tactic(auto, unfolding(crate::specs::Node::turn_in, crate::specs::Node::hearing_at), using(crate::proofs::Counts::calls_room, crate::proofs::Counts::flushes_room, crate::proofs::Counts::start_room))]
     fn start(&mut self, call: Call) -> Result<ClientOutput, Oom>
         requires node { IsNode self.old }
         requires steps { self.old.steps < 2 ^ 48 }
@@ -99,7 +99,7 @@ impl Ends {
         Ok(output)
     }
 
-    #[tactic(auto, unfolding(crate::specs::Node::turn_in, crate::specs::Node::hearing_at), using(crate::proofs::Counts::flushes_room, crate::proofs::Counts::write_back_room, crate::proofs::Turns::gives_write_back))]
+    #[tactic(auto, unfolding(crate::specs::Node::turn_in, crate::specs::Node::hearing_at), using(crate::proofs::Counts::flushes_room, crate::proofs::Counts::write_back_room))]
     fn write_back(&mut self, fd: u8) -> Result<ClientOutput, Oom>
         requires node { IsNode self.old }
         requires steps { self.old.steps < 2 ^ 48 }
@@ -112,7 +112,7 @@ impl Ends {
     }
 
     /// Sends the oldest message again that isn't acknowledged, and nothing else.
-    #[tactic(auto, using(crate::proofs::Turns::ticks_on, crate::proofs::Turns::gives_tick))]
+    #[tactic(auto, using(crate::proofs::Turns::ticks_on))]
     fn tick(&self) -> Result<ClientOutput, Oom>
         ensures state { IfOk result (λ output. self.now ≡ goes_on_at self.now Tick) }
         ensures gives { IfOk result (Gives self.now Tick) }

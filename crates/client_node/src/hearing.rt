@@ -35,7 +35,6 @@ impl Ends {
     }
 
     /// Hears a packet in the session as it is.
-    #[tactic(auto, using(crate::proofs::Turns::gives_back))]
     fn hear_in_session(
         &mut self,
         packet: &Packet,

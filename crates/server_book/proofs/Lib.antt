@@ -8,3 +8,6 @@ pub mod Keeping
 pub mod Ending
 pub mod Fitting
 pub mod Bridging
+pub mod Lowering
+pub mod Telling
+pub mod Revoking

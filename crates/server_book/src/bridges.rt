@@ -5,8 +5,10 @@ ghost use Rattle.cal_base.specs.declared.identity.Ino.{Ino};
 ghost use Rattle.message.specs.declared.message.Message.TheVariants.{Grant, Piece, Release};
 ghost use Rattle.rebuild.specs.Collecting.{Collecting};
 ghost use Rattle.rebuild.specs.Reports.{Fits, Grants, Lowers, Purges as PurgesIn, Releases, Takes};
+ghost use Rattle.revocation.specs.Revokes.{AsksAll, revokes_of};
 ghost use Rattle.revocation.specs.Waiting.{Answers, AsksNothing, without_client};
 ghost use Rattle.shared_disk.specs.Sectors.{written};
+ghost use Rattle.token_kind.specs.declared.blocker.Blocker.{Blocker};
 ghost use Rattle.token_kind.specs.declared.«class».Class.{Class};
 ghost use Rattle.token_kind.specs.declared.flush.Flush.{Flush as FlushRecord};
 ghost use Rattle.token_kind.specs.declared.grant_item.GrantItem.{GrantItem};
@@ -16,9 +18,9 @@ ghost use Rattle.token_kind.specs.declared.release.Release.{Release as ReleaseRe
 ghost use Rattle.token_table.specs.Table.{Table, held_of, key_of};
 ghost use Rattle.token_table.specs.declared.hold_key.HoldKey.{HoldKey};
 ghost use Rattle.volume_edit.specs.Edit.{edited};
-ghost use Rattle.cluster_law.specs.Lanes.{Commit, Commits, Flushes, Lane, Purges, Tells};
-ghost use Rattle.cluster_law.specs.ServerState.{ServerState, after_act, granted_token, hearing, last_flush, left_by};
-ghost use Rattle.server_book.specs.Alike.{Alike, AnswersAll};
+ghost use Rattle.cluster_law.specs.Lanes.{Act, Commit, Commits, Flushes, Lane, Purges, Tells};
+ghost use Rattle.cluster_law.specs.ServerState.{ServerState, after_act, after_acts, granted_token, hearing, last_flush, left_by};
+ghost use Rattle.server_book.specs.Alike.{Alike, AnswersAll, revoking};
 
 /// Holds that are lowered one by one are lowered together, and so they are answered: what is said of one and of
 /// those behind it is said of all.
@@ -46,4 +48,11 @@ pub fn parts_change_as_the_law()
         → Alike (record { collecting = new; requests = server.requests; asked = asked; volume = edited server.volume commit.edit; sectors = written (written server.sectors commit.lays) commit.homes }) (after_act law (Commits commit)) }
     ensures purges { (server law : ServerState) (new : Collecting) (client : ℕ) (commit : Commit) (asked : List (HoldKey × Hold)) → Alike server law → commit.deed ≡ Purges client → PurgesIn server.collecting new (record { 0 = client }) → AsksNothing server.asked asked (record { 0 = client })
         → Alike (record { collecting = new; requests = without_client server.requests (record { 0 = client }); asked = asked; volume = edited server.volume commit.edit; sectors = written (written server.sectors commit.lays) commit.homes }) (after_act law (Commits commit)) }
+{}
+
+/// Where a server asks all that blocks, by the Revokes for it, it is alike the law's once these are told, one
+/// after the other.
+pub fn revokes_ask_what_blocks()
+    ensures { (server start : ServerState) (before : List Act) (view : ℕ) (asked : List (HoldKey × Hold)) (blockers : List Blocker) → Alike server (after_acts start before) → AsksAll server.asked asked blockers
+        → Alike (record server { asked = asked }) (after_acts start (revoking view (revokes_of server.asked blockers) before)) }
 {}

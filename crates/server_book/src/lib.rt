@@ -4,13 +4,14 @@
 //! in any lists that hold the same. Servers that hold the same are alike (`Alike`, specs/Alike), and decide
 //! the same ([`alike_servers_decide_alike`]), go on alike ([`alike_servers_go_on_alike`]) and keep the same
 //! rules ([`alike_servers_keep_the_same_rules`]). Where a server's parts do what they promise, it is alike the
-//! law's next ([`parts_change_as_the_law`], [`one_by_one_is_together`]).
+//! law's next ([`parts_change_as_the_law`], [`one_by_one_is_together`]), and so it is where it asks all that
+//! blocks and tells the Revokes for it ([`revokes_ask_what_blocks`]).
 #![tactic(auto)]
 
 mod bridges;
 mod laws;
 
-pub use bridges::{one_by_one_is_together, parts_change_as_the_law};
+pub use bridges::{one_by_one_is_together, parts_change_as_the_law, revokes_ask_what_blocks};
 pub use laws::{
     alike_servers_decide_alike, alike_servers_go_on_alike, alike_servers_keep_the_same_rules,
 };

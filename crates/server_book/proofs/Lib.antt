@@ -11,3 +11,5 @@ pub mod Bridging
 pub mod Lowering
 pub mod Telling
 pub mod Revoking
+pub mod Turning
+pub mod Orphans

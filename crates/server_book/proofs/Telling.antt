@@ -43,10 +43,10 @@ told-by o (item ∷ items) rest xs = refl
 
 module _ (before after : HoldKey → Option Hold) (kept : (cls : Class) (q : HoldKey) → item_of cls (before q) (after q) ≡ None → after q ≡ before q) where
   -- each hold is asked as before or as after; and some of those that were asked as before are asked as after
-  abbrev Between : List (HoldKey × Hold) → Type 0
+  abbrev pub Between : List (HoldKey × Hold) → Type 0
   Between xs = (q : HoldKey) → (asked_at xs q ≡ before q) ⊎ (asked_at xs q ≡ after q)
 
-  abbrev Nearer : List (HoldKey × Hold) → List (HoldKey × Hold) → Type 0
+  abbrev pub Nearer : List (HoldKey × Hold) → List (HoldKey × Hold) → Type 0
   Nearer xs ys = (q : HoldKey) → (asked_at ys q ≡ after q) ⊎ (asked_at ys q ≡ asked_at xs q)
 
   nearer-trans : (xs ys zs : List (HoldKey × Hold)) → Nearer xs ys → Nearer ys zs → Nearer xs zs
@@ -101,16 +101,16 @@ module _ (before after : HoldKey → Option Hold) (kept : (cls : Class) (q : Hol
       at = ask-front xs k (lower_asked (asked_at xs k) m) k ∙ ap (λ (b : Bool). if b then Some (lower_asked (asked_at xs k) m) else asked_at xs k) (same_key-refl k) ∙ there
 
   -- the items for some classes of an owner are told
-  abbrev item_for : Owner → Class → Option (Class × Hold)
+  abbrev pub item_for : Owner → Class → Option (Class × Hold)
   item_for o cls = item_of cls (before (key_of o.client o.ino cls)) (after (key_of o.client o.ino cls))
 
-  abbrev IsAfter : Owner → List (HoldKey × Hold) → Class → Type 0
+  abbrev pub IsAfter : Owner → List (HoldKey × Hold) → Class → Type 0
   IsAfter o ys cls = asked_at ys (key_of o.client o.ino cls) ≡ after (key_of o.client o.ino cls)
 
-  abbrev AreTold : Owner → List Class → List (HoldKey × Hold) → List (HoldKey × Hold) → Type 0
+  abbrev pub AreTold : Owner → List Class → List (HoldKey × Hold) → List (HoldKey × Hold) → Type 0
   AreTold o cs xs ys = Nearer xs ys × All (IsAfter o ys) cs
 
-  classes-told : (o : Owner) (cs : List Class) (xs : List (HoldKey × Hold)) → Between xs → AreTold o cs xs (asked_in o.client o.ino (filter_map (item_for o) cs) xs)
+  pub classes-told : (o : Owner) (cs : List Class) (xs : List (HoldKey × Hold)) → Between xs → AreTold o cs xs (asked_in o.client o.ino (filter_map (item_for o) cs) xs)
   unfolding asked_in
   classes-told o [] xs between = (λ q. inr refl, All-nil (IsAfter o xs))
   classes-told o (c ∷ cs) xs between = by (item_for o c) refl (λ zs bz. classes-told o cs zs bz)

@@ -1,5 +1,5 @@
 //! What a server's parts promise of their changes is what the law makes of them.
-ghost use Rattle.std.specs.Prelude.{◌≡◌, ◌∷◌, [], ℕ, List, drop, map};
+ghost use Rattle.std.specs.Prelude.{◌≡◌, ◌↔◌, ◌∷◌, [], ℕ, IsTrue, List, drop, map};
 ghost use Rattle.cal_base.specs.declared.identity.ClientId.{ClientId};
 ghost use Rattle.cal_base.specs.declared.identity.Ino.{Ino};
 ghost use Rattle.message.specs.declared.message.Message.TheVariants.{Grant, Piece, Release};
@@ -15,11 +15,14 @@ ghost use Rattle.token_kind.specs.declared.grant_item.GrantItem.{GrantItem};
 ghost use Rattle.token_kind.specs.declared.hold.Hold.{Hold};
 ghost use Rattle.token_kind.specs.declared.piece.Piece.{Piece as PieceRecord};
 ghost use Rattle.token_kind.specs.declared.release.Release.{Release as ReleaseRecord};
-ghost use Rattle.token_table.specs.Table.{Table, held_of, key_of};
+ghost use Rattle.token_kind.specs.declared.revoke.Revoke.{Revoke};
+ghost use Rattle.token_table.specs.Table.{IsTable, Table, held_of, key_of};
 ghost use Rattle.token_table.specs.declared.hold_key.HoldKey.{HoldKey};
 ghost use Rattle.volume_edit.specs.Edit.{edited};
+ghost use Rattle.cluster_law.specs.Asking.{deserted, holders_of};
 ghost use Rattle.cluster_law.specs.Lanes.{Act, Commit, Commits, Flushes, Lane, Purges, Tells};
-ghost use Rattle.cluster_law.specs.ServerState.{ServerState, after_act, after_acts, granted_token, hearing, last_flush, left_by};
+ghost use Rattle.cluster_law.specs.ServerRules.{ActsWell, EachAct, HasReserve, Occasion, looks_at_orphans};
+ghost use Rattle.cluster_law.specs.ServerState.{ServerState, after_act, after_acts, asked_with, granted_token, hearing, is_admitted, last_flush, left_by, table_in, uses};
 ghost use Rattle.server_book.specs.Alike.{Alike, AnswersAll, revoking};
 
 /// Holds that are lowered one by one are lowered together, and so they are answered: what is said of one and of
@@ -55,4 +58,22 @@ pub fn parts_change_as_the_law()
 pub fn revokes_ask_what_blocks()
     ensures { (server start : ServerState) (before : List Act) (view : ℕ) (asked : List (HoldKey × Hold)) (blockers : List Blocker) → Alike server (after_acts start before) → AsksAll server.asked asked blockers
         → Alike (record server { asked = asked }) (after_acts start (revoking view (revokes_of server.asked blockers) before)) }
+{}
+
+/// Once the first of the Revokes for some holds is told, exactly the others are left, in their order. So each is the
+/// one that goes out next where it is told.
+pub fn a_revoke_is_told_once()
+    ensures { (asked : List (HoldKey × Hold)) (blockers : List Blocker) (sent : ClientId × Revoke) (rest : List (ClientId × Revoke)) → revokes_of asked blockers ≡ sent ∷ rest
+        → revokes_of (asked_with sent.0 sent.1.ino sent.1.items asked) blockers ≡ rest }
+{}
+
+/// A piece fits exactly where the law uses it, while the table is one.
+pub fn a_piece_fits_where_it_is_used()
+    ensures { (server : ServerState) (client : ClientId) (piece : PieceRecord) → IsTable (table_in server) → IsTrue (uses server client (Piece piece)) ↔ Fits server.collecting client piece (last_flush server client) }
+{}
+
+/// Where a server looks at orphans, it may tell the Revokes for all holds on the least deserted one, in order.
+pub fn an_orphan_is_asked_for_in_turn()
+    ensures { (o : Occasion) (start : ServerState) (before : List Act) (view : ℕ) → IsTrue (looks_at_orphans o start) → IsTrue (is_admitted (after_acts start before)) → HasReserve (after_acts start before) → EachAct start (ActsWell o start) before
+        → EachAct start (ActsWell o start) (revoking view (revokes_of (after_acts start before).asked (holders_of (after_acts start before) (deserted (after_acts start before)))) before) }
 {}

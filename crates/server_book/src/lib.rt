@@ -5,13 +5,16 @@
 //! the same ([`alike_servers_decide_alike`]), go on alike ([`alike_servers_go_on_alike`]) and keep the same
 //! rules ([`alike_servers_keep_the_same_rules`]). Where a server's parts do what they promise, it is alike the
 //! law's next ([`parts_change_as_the_law`], [`one_by_one_is_together`]), and so it is where it asks all that
-//! blocks and tells the Revokes for it ([`revokes_ask_what_blocks`]).
+//! blocks and tells the Revokes for it ([`revokes_ask_what_blocks`]), each once ([`a_revoke_is_told_once`]).
 #![tactic(auto)]
 
 mod bridges;
 mod laws;
 
-pub use bridges::{one_by_one_is_together, parts_change_as_the_law, revokes_ask_what_blocks};
+pub use bridges::{
+    a_piece_fits_where_it_is_used, a_revoke_is_told_once, an_orphan_is_asked_for_in_turn,
+    one_by_one_is_together, parts_change_as_the_law, revokes_ask_what_blocks,
+};
 pub use laws::{
     alike_servers_decide_alike, alike_servers_go_on_alike, alike_servers_keep_the_same_rules,
 };

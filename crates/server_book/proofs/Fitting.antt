@@ -1,18 +1,23 @@
 -- A piece that fits is one that the law uses, and the other way round where the table is one.
-use Rattle.std.proofs.Common.{◌≡◌, ◌∷◌, [], ◌&&◌, ◌||◌, List, Bool, true, false, not, ℕ, ap, refl, ◌∙◌}
+use Rattle.std.specs.Prelude.{IsTrue, ◌↔◌}
+use Rattle.std.proofs.Common.{◌≡◌, ◌∷◌, [], ◌<◌, ◌≤◌, ◌&&◌, ◌||◌, ◌⊎◌, inl, inr, List, Bool, true, false, not, ℕ, zero, suc, ap, refl, subst, sym, ◌∙◌, arith, true≢false}
 use Rattle.std.specs.List.{All, list_all}
-use Rattle.std.proofs.lemmas.Bool.{eq-eqb}
-use Rattle.std.proofs.lemmas.List.Elements.{All-head, All-tail}
+use Rattle.std.proofs.lemmas.Bool.{cases_lt, eq-eqb, eqb-true}
+use Rattle.std.proofs.lemmas.List.Elements.{All-cons, All-head, All-nil, All-tail}
+use Rattle.std.proofs.lemmas.List.Folds.{list_all-append}
 use Rattle.cal_base.specs.declared.identity.ClientId.{ClientId}
 use Rattle.message.specs.declared.message.Message.TheVariants.{Piece}
+use Rattle.rebuild.specs.Collecting.{standing_of}
 use Rattle.rebuild.specs.Reports.{Fits, judged}
 use Rattle.rebuild.specs.declared.reporting.Reporting.{Reporting}
+use Rattle.rebuild.specs.declared.reporting.Reporting.TheVariants.{Unlisted, Listed, Asked, Whole, Purged}
 use Rattle.token_kind.specs.Hold.{conflict}
 use Rattle.token_kind.specs.declared.piece.Piece.{Piece as PieceRecord}
 use Rattle.token_kind.specs.declared.reported.Reported.{Reported}
 use Rattle.token_kind.specs.declared.token.Token.{Token}
 use Rattle.token_table.specs.Blockers.{blocks, clients_below}
-use Rattle.token_table.specs.Table.{IsGrantable, Table, held_of, same_client}
+use Rattle.token_table.specs.Table.{IsGrantable, IsTable, Table, held_of, same_client}
+use Rattle.token_table.proofs.Grants.{grantable_from_free}
 use Rattle.cluster_law.specs.ServerState.{ServerState, is_apart, is_next_piece, last_flush, table_in, uses}
 
 -- a test that all pass

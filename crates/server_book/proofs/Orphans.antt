@@ -1,5 +1,5 @@
 -- The Revokes for the holds on a deserted orphan keep the rules, each where it is told.
-use Rattle.std.proofs.Common.{◌≡◌, inr, ℕ, List, [], ◌∷◌, Option, Some, IsTrue, refl, sym, ap, subst, ◌∙◌}
+use Rattle.std.proofs.Common.{◌≡◌, inr, ℕ, List, [], ◌∷◌, Some, IsTrue, refl, sym, ap, subst, ◌∙◌}
 use Rattle.cal_base.specs.declared.identity.ClientId.{ClientId}
 use Rattle.message.specs.declared.message.Message.TheVariants.{Revoke as Asks}
 use Rattle.revocation.specs.Revokes.{revokes_of}

@@ -13,3 +13,5 @@ pub mod Telling
 pub mod Revoking
 pub mod Turning
 pub mod Orphans
+pub mod Steady
+pub mod Heads

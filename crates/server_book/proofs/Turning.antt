@@ -88,7 +88,7 @@ sent-is o [] s e = absurd (cc)
 sent-is o (item ∷ items) s e = cc
 
 -- the first of what is gathered was gathered of something
-gathered-first : {X Y : Type 0} (f : X → Option Y) (xs : List X) (y : Y) (ys : List Y) → filter_map f xs ≡ y ∷ ys → (x : X) × (f x ≡ Some y)
+pub gathered-first : {X Y : Type 0} (f : X → Option Y) (xs : List X) (y : Y) (ys : List Y) → filter_map f xs ≡ y ∷ ys → (x : X) × (f x ≡ Some y)
 gathered-first f [] y ys e = absurd (cc)
 gathered-first f (x ∷ xs) y ys e = by (f x) refl e (λ h. gathered-first f xs y ys h)
   where
@@ -102,14 +102,14 @@ all-stay p [] each = refl
 all-stay p (x ∷ xs) each = ap (λ (b : Bool). cond b (x ∷ filter p xs) (filter p xs)) (each 0 x refl) ∙ ap (λ ys. x ∷ ys) (all-stay p xs (λ j y e. each (suc j) y e))
 
 module _ (asked : List (HoldKey × Hold)) (bs : List Blocker) (o : Owner) (s : ClientId × Revoke) (is : revoke_of (asked_at asked) (asked_after asked bs) o ≡ Some s) where
-  told-owner : AreTold (asked_at asked) (asked_after asked bs) (λ cls p. kept-where-none cls p bs (asked_at asked p)) o (Names ∷ Data ∷ Attr ∷ []) asked (asked_in s.0 s.1.ino s.1.items asked)
+  pub told-owner : AreTold (asked_at asked) (asked_after asked bs) (λ cls p. kept-where-none cls p bs (asked_at asked p)) o (Names ∷ Data ∷ Attr ∷ []) asked (asked_in s.0 s.1.ino s.1.items asked)
   told-owner =
       subst (λ (t : ClientId × Revoke). AreTold (asked_at asked) (asked_after asked bs) (λ cls p. kept-where-none cls p bs (asked_at asked p)) o (Names ∷ Data ∷ Attr ∷ []) asked (asked_in t.0 t.1.ino t.1.items asked))
       (sent-is o (items_of (asked_at asked) (asked_after asked bs) o) s is)
       (classes-told (asked_at asked) (asked_after asked bs) (λ cls p. kept-where-none cls p bs (asked_at asked p)) o (Names ∷ Data ∷ Attr ∷ []) asked (λ q. inl refl))
 
   -- what all blockers ask is as before
-  after-same : (q : HoldKey) → asked_after (asked_in s.0 s.1.ino s.1.items asked) bs q ≡ asked_after asked bs q
+  pub after-same : (q : HoldKey) → asked_after (asked_in s.0 s.1.ino s.1.items asked) bs q ≡ asked_after asked bs q
   after-same q = by (told-owner.0 q)
     where
       by : (asked_at (asked_in s.0 s.1.ino s.1.items asked) q ≡ asked_after asked bs q) ⊎ (asked_at (asked_in s.0 s.1.ino s.1.items asked) q ≡ asked_at asked q) → asked_after (asked_in s.0 s.1.ino s.1.items asked) bs q ≡ asked_after asked bs q

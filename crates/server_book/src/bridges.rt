@@ -19,7 +19,8 @@ ghost use Rattle.token_kind.specs.declared.revoke.Revoke.{Revoke};
 ghost use Rattle.token_table.specs.Table.{IsTable, Table, held_of, key_of};
 ghost use Rattle.token_table.specs.declared.hold_key.HoldKey.{HoldKey};
 ghost use Rattle.volume_edit.specs.Edit.{edited};
-ghost use Rattle.cluster_law.specs.Asking.{deserted, holders_of};
+ghost use Rattle.cluster_law.specs.Asking.{blocks_of, deserted, holders_of};
+ghost use Rattle.cluster_law.specs.Granting.{head};
 ghost use Rattle.cluster_law.specs.Lanes.{Act, Commit, Commits, Flushes, Lane, Purges, Tells};
 ghost use Rattle.cluster_law.specs.ServerRules.{ActsWell, EachAct, HasReserve, Occasion, looks_at_orphans};
 ghost use Rattle.cluster_law.specs.ServerState.{ServerState, after_act, after_acts, asked_with, granted_token, hearing, is_admitted, last_flush, left_by, table_in, uses};
@@ -76,4 +77,11 @@ pub fn a_piece_fits_where_it_is_used()
 pub fn an_orphan_is_asked_for_in_turn()
     ensures { (o : Occasion) (start : ServerState) (before : List Act) (view : ℕ) → IsTrue (looks_at_orphans o start) → IsTrue (is_admitted (after_acts start before)) → HasReserve (after_acts start before) → EachAct start (ActsWell o start) before
         → EachAct start (ActsWell o start) (revoking view (revokes_of (after_acts start before).asked (holders_of (after_acts start before) (deserted (after_acts start before)))) before) }
+{}
+
+/// Where a server is admitted and has its reserve, it may tell the Revokes for all that blocks the head of its
+/// line, in order: what blocks it stays the same meanwhile.
+pub fn what_blocks_is_asked_in_turn()
+    ensures { (o : Occasion) (start : ServerState) (before : List Act) (view : ℕ) → IsTable (table_in (after_acts start before)) → IsTrue (is_admitted (after_acts start before)) → HasReserve (after_acts start before) → EachAct start (ActsWell o start) before
+        → EachAct start (ActsWell o start) (revoking view (revokes_of (after_acts start before).asked (blocks_of (after_acts start before) (head (after_acts start before)))) before) }
 {}

@@ -226,7 +226,7 @@ module _ (base : ServerState) (table : IsTable (table_in base)) (reserve : reser
       (kept-by want (blockers_of (table_in base) c (lacking base c want) ++ own_blockers base.asked c (needed base want)) refl))
 
 -- and so for whatever stands at the head
-steady-of : (base : ServerState) → IsTable (table_in base) → reserved base ≤ free_count base.volume → (o : Option Request) (xs : List (HoldKey × Hold))
+pub steady-of : (base : ServerState) → IsTable (table_in base) → reserved base ≤ free_count base.volume → (o : Option Request) (xs : List (HoldKey × Hold))
     → ((q : HoldKey) → (asked_at xs q ≡ asked_at base.asked q) ⊎ (asked_at xs q ≡ asked_after base.asked (blocks_of base o) q)) → blocks_of (record base { asked = xs }) o ≡ blocks_of base o
 steady-of base table reserve None xs between = refl
 steady-of base table reserve (Some request) xs between = steady base table reserve request.client request.number request.asked xs between

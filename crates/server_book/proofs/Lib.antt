@@ -15,3 +15,4 @@ pub mod Turning
 pub mod Orphans
 pub mod Steady
 pub mod Heads
+pub mod Resting

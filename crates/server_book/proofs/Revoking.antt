@@ -14,7 +14,7 @@ use Rattle.server_book.proofs.Faces.{after_by, asked-path, revokes_by}
 use Rattle.server_book.proofs.Telling.{all-told, tell_all}
 
 -- Revokes that are told alter what is asked alone
-tells-alone : (start : ServerState) (view : ℕ) (sents : List (ClientId × Revoke)) (before : List Act)
+pub tells-alone : (start : ServerState) (view : ℕ) (sents : List (ClientId × Revoke)) (before : List Act)
     → after_acts start (revoking view sents before) ≡ record (after_acts start before) { asked = tell_all sents (after_acts start before).asked }
 unfolding after_acts after_act revoking
 tells-alone start view [] before = refl

@@ -1,5 +1,5 @@
 //! What a server's parts promise of their changes is what the law makes of them.
-ghost use Rattle.std.specs.Prelude.{◌≡◌, ◌↔◌, ◌∷◌, [], ℕ, IsTrue, List, drop, map};
+ghost use Rattle.std.specs.Prelude.{◌≡◌, ◌↔◌, ◌∷◌, [], ℕ, IsTrue, List, None, drop, map};
 ghost use Rattle.cal_base.specs.declared.identity.ClientId.{ClientId};
 ghost use Rattle.cal_base.specs.declared.identity.Ino.{Ino};
 ghost use Rattle.message.specs.declared.message.Message.TheVariants.{Grant, Piece, Release};
@@ -19,7 +19,7 @@ ghost use Rattle.token_kind.specs.declared.revoke.Revoke.{Revoke};
 ghost use Rattle.token_table.specs.Table.{IsTable, Table, held_of, key_of};
 ghost use Rattle.token_table.specs.declared.hold_key.HoldKey.{HoldKey};
 ghost use Rattle.volume_edit.specs.Edit.{edited};
-ghost use Rattle.cluster_law.specs.Asking.{blocks_of, deserted, holders_of};
+ghost use Rattle.cluster_law.specs.Asking.{blocks_of, deserted, holders_of, next_revoke};
 ghost use Rattle.cluster_law.specs.Granting.{head};
 ghost use Rattle.cluster_law.specs.Lanes.{Act, Commit, Commits, Flushes, Lane, Purges, Tells};
 ghost use Rattle.cluster_law.specs.ServerRules.{ActsWell, EachAct, HasReserve, Occasion, looks_at_orphans};
@@ -80,8 +80,10 @@ pub fn an_orphan_is_asked_for_in_turn()
 {}
 
 /// Where a server is admitted and has its reserve, it may tell the Revokes for all that blocks the head of its
-/// line, in order: what blocks it stays the same meanwhile.
+/// line, in order: what blocks it stays the same meanwhile. And then none is left to tell.
 pub fn what_blocks_is_asked_in_turn()
-    ensures { (o : Occasion) (start : ServerState) (before : List Act) (view : ℕ) → IsTable (table_in (after_acts start before)) → IsTrue (is_admitted (after_acts start before)) → HasReserve (after_acts start before) → EachAct start (ActsWell o start) before
+    ensures keeps { (o : Occasion) (start : ServerState) (before : List Act) (view : ℕ) → IsTable (table_in (after_acts start before)) → IsTrue (is_admitted (after_acts start before)) → HasReserve (after_acts start before) → EachAct start (ActsWell o start) before
         → EachAct start (ActsWell o start) (revoking view (revokes_of (after_acts start before).asked (blocks_of (after_acts start before) (head (after_acts start before)))) before) }
+    ensures rests { (start : ServerState) (before : List Act) (view : ℕ) → IsTable (table_in (after_acts start before)) → IsTrue (is_admitted (after_acts start before)) → HasReserve (after_acts start before)
+        → let end = after_acts start (revoking view (revokes_of (after_acts start before).asked (blocks_of (after_acts start before) (head (after_acts start before)))) before) in next_revoke end (blocks_of end (head end)) ≡ None }
 {}

@@ -1,0 +1,2 @@
+mod Liking
+mod Together

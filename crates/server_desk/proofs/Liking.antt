@@ -1,5 +1,5 @@
 -- A law's server that is like a desk goes on as the desk does.
-use Rattle.std.proofs.Common.{◌≡◌, [], List, Bool, true, false, Option, Some, None, ℕ, IsTrue, drop, if◌then◌else◌, map, ap, refl, subst, sym, ◌∙◌}
+use Rattle.std.proofs.Common.{◌≡◌, ◌↔◌, [], List, Bool, true, false, Option, Some, None, ℕ, IsTrue, drop, if◌then◌else◌, map, ap, refl, subst, sym, ◌∙◌}
 use Rattle.cal_base.specs.declared.identity.ClientId.{ClientId}
 use Rattle.cal_base.specs.declared.identity.Ino.{Ino}
 use Rattle.message.specs.declared.message.Message.TheVariants.{Grant, Piece, Release}
@@ -17,14 +17,16 @@ use Rattle.token_kind.specs.declared.piece.Piece.{Piece as PieceRecord}
 use Rattle.token_kind.specs.declared.release.Release.{Release as ReleaseRecord}
 use Rattle.token_kind.specs.declared.token.Token.{Token}
 use Rattle.token_table.specs.Series.{Same}
-use Rattle.token_table.specs.Table.{Table, same_client}
+use Rattle.token_table.specs.Table.{IsTable, Table, same_client}
 use Rattle.token_table.specs.declared.hold_key.HoldKey.{HoldKey}
 use Rattle.tree_law.specs.declared.request.Request.{Request}
 use Rattle.volume.specs.Volume.{Volume}
 use Rattle.cluster_law.specs.Lanes.{Act, Commit, Commits, Down}
-use Rattle.cluster_law.specs.ServerState.{ServerState, after_act, after_acts, arriving, doing, empty_table, granted_token, hearing, is_admitted, last_flush, lowering, purging, serving, table_in, telling, without_head, without_holds}
+use Rattle.cluster_law.specs.ServerState.{ServerState, after_act, after_acts, arriving, doing, empty_table, granted_token, hearing, is_admitted, last_flush, lowering, purging, serving, table_in, telling, uses, without_head, without_holds}
 use Rattle.server_book.specs.Alike.{Alike, AnswersAll, revoking}
 use Rattle.server_book.proofs.Bridging.{dropped-holds, grants, releases, takes}
+use Rattle.server_book.proofs.Deciding.{used}
+use Rattle.server_book.proofs.Fitting.{fits-where-used}
 use Rattle.server_book.proofs.Revoking.{asks as asks-back}
 use Rattle.server_book.proofs.SameTables.{same-dropped, same-refl, same-trans}
 use Rattle.server_desk.specs.Desk.{DeskValue, IsLike, desk_of, with_asked, with_desk, with_listed}
@@ -194,6 +196,21 @@ reports old new line client piece flushed desk is =
     subst (λ (d : DeskValue). Fits d.collecting client piece flushed → Takes old new client piece flushed
     → (law : ServerState) → IsLike d law → last_flush law client ≡ flushed → IsLike (desk_of new line) (hearing law client (Piece piece))) is
     (reported (desk_of old line) new client piece flushed)
+
+-- a piece fits exactly where the law uses it
+used-by : (old : DeskValue) (client : ClientId) (piece : PieceRecord) (flushed : ℕ) (answer : Bool) → IsTrue answer ↔ Fits old.collecting client piece flushed
+    → (law : ServerState) → IsTable old.collecting.table → IsLike old law → last_flush law client ≡ flushed → IsTrue answer ↔ IsTrue (uses law client (Piece piece))
+used-by old client piece flushed answer exact law table like same =
+    let server = with_desk old law.volume law.sectors in
+    let fitting = fits-where-used server client piece table in
+    let alike = used server law like client (Piece piece) in
+    (λ yes. subst (λ (b : Bool). IsTrue b) alike (fitting.1 (subst (λ (n : ℕ). Fits old.collecting client piece n) (sym same) (exact.0 yes))), λ uses'. exact.1 (subst (λ (n : ℕ). Fits old.collecting client piece n) same (fitting.0 (subst (λ (b : Bool). IsTrue b) (sym alike) uses'))))
+
+pub fits-where-law-uses : (old : Collecting) (line : Waiting) (client : ClientId) (piece : PieceRecord) (flushed : ℕ) (answer : Bool) → IsTrue answer ↔ Fits old client piece flushed → (desk : DeskValue) → desk_of old line ≡ desk
+    → (law : ServerState) → IsTable desk.collecting.table → IsLike desk law → last_flush law client ≡ flushed → IsTrue answer ↔ IsTrue (uses law client (Piece piece))
+fits-where-law-uses old line client piece flushed answer exact desk is =
+    subst (λ (d : DeskValue). (law : ServerState) → IsTable d.collecting.table → IsLike d law → last_flush law client ≡ flushed → IsTrue answer ↔ IsTrue (uses law client (Piece piece))) is
+    (used-by (desk_of old line) client piece flushed answer exact)
 
 -- what blocks is asked back
 revoked : (old new : DeskValue) (blockers : List Blocker) → new.collecting ≡ old.collecting → new.requests ≡ old.requests → AsksAll old.asked new.asked blockers

@@ -4,7 +4,7 @@ ghost use Rattle.token_kind.specs.Kept.{IsRevoke};
 ghost use Rattle.token_kind.specs.Token.{HasModes, IsToken};
 ghost use Rattle.token_kind.specs.declared.«class».Class.TheVariants.{Attr, Data};
 ghost use Rattle.token_kind.specs.declared.grant_item.GrantItem.{GrantItem};
-ghost use Rattle.token_table.specs.Table.{IsGrantable, key_of};
+ghost use Rattle.token_table.specs.Table.{IsGrantable, IsTable, key_of};
 ghost use Rattle.message.specs.declared.message.Message.TheVariants.{Grant, Piece as PieceOf, Release as ReleaseOf};
 ghost use Rattle.rebuild.specs.Collecting.{asking, listing, missing_of, next_of, none_listed, standing_of};
 ghost use Rattle.rebuild.specs.Reports.{Fits};
@@ -12,7 +12,7 @@ ghost use Rattle.revocation.specs.Formed.{AreAskable};
 ghost use Rattle.revocation.specs.Revokes.{revokes_of};
 ghost use Rattle.revocation.specs.Waiting.{IsRequest, asked_at, own_blockers, queued};
 ghost use Rattle.cluster_law.specs.Lanes.{Act};
-ghost use Rattle.cluster_law.specs.ServerState.{ServerState, after_acts, arriving, granted_token, hearing, is_admitted, last_flush, lowering, purging, telling, without_head};
+ghost use Rattle.cluster_law.specs.ServerState.{ServerState, after_acts, arriving, granted_token, hearing, is_admitted, last_flush, lowering, purging, telling, without_head, uses};
 ghost use Rattle.server_book.specs.Alike.{AnswersAll, revoking};
 ghost use Rattle.server_desk.specs.Desk.{IsLike, with_asked, with_listed};
 
@@ -175,7 +175,8 @@ impl Desk {
     /// hold of it, judged by the client's slot, conflicts with one that another client reported. It takes no
     /// memory.
     pub fn fits(&self, client: ClientId, piece: &Piece, slot: &Slot) -> bool
-        ensures { IsTrue result ↔ Fits self.now.collecting client piece.now slot.now.flush }
+        ensures fits { IsTrue result ↔ Fits self.now.collecting client piece.now slot.now.flush }
+        ensures used { (server : ServerState) → IsTable self.now.collecting.table → IsLike self.now server → last_flush server client ≡ slot.now.flush → IsTrue result ↔ IsTrue (uses server client (PieceOf piece.now)) }
     {
         self.reports.fits(client, piece, slot)
     }

@@ -9,7 +9,7 @@ ghost use Rattle.message.specs.declared.message.Message.TheVariants.{Grant, Piec
 ghost use Rattle.rebuild.specs.Collecting.{asking, listing, missing_of, next_of, none_listed, standing_of};
 ghost use Rattle.rebuild.specs.Reports.{Fits};
 ghost use Rattle.revocation.specs.Formed.{AreAskable};
-ghost use Rattle.revocation.specs.Revokes.{revokes_of};
+ghost use Rattle.revocation.specs.Revokes.{AsksAll, revokes_of};
 ghost use Rattle.revocation.specs.Waiting.{IsRequest, asked_at, own_blockers, queued};
 ghost use Rattle.cluster_law.specs.Lanes.{Act};
 ghost use Rattle.cluster_law.specs.ServerState.{ServerState, after_acts, arriving, granted_token, hearing, is_admitted, last_flush, lowering, purging, telling, without_head, uses};
@@ -201,6 +201,7 @@ impl Desk {
     /// holds are then asked. Open is never asked back. After want of memory the desk is as it was.
     pub fn revoke(&mut self, blockers: &[Blocker]) -> Result<RevokeList, Oom>
         ensures revokes { IfOk result (λ revokes. revokes ≡ revokes_of self.old.asked blockers.now) }
+        ensures asked { OnOk result (AsksAll self.old.asked self.new.asked blockers.now) }
         ensures formed { IfOk result (λ revokes. AreAskable blockers.now → All (λ sent. IsRevoke sent.1) revokes) }
         ensures like { OnOk result ((start : ServerState) (before : List Act) (view : ℕ) → IsLike self.old (after_acts start before) → IsLike self.new (after_acts start (revoking view (revokes_of self.old.asked blockers.now) before))) }
         ensures err { OnErr result (self.new ≡ self.old) }

@@ -47,10 +47,7 @@ unfoldable pub revoking_all_in : Memory → List Waiting → List Message
 revoking_all_in m [] = []
 revoking_all_in m (revoke ∷ revokes) = revoking_in m.known revoke.ino revoke.items ++ revoking_all_in (revoked_in m revoke.ino revoke.items) revokes
 
--- what is in memory once a flush is done, and the Revokes that waited behind it
-abbrev pub flush_done : Memory → FlushRecord → Memory
-flush_done m flush = record { known = after_flushed m.known flush.number; remembered = filter (λ revoke. not (is_behind flush.ino revoke)) m.remembered }
-
+-- a flush is done: the Revokes that waited behind it are carried out
 abbrev pub revoking_behind_in : Memory → ℕ → Option FlushRecord → List Message
 revoking_behind_in m number None = []
 revoking_behind_in m number (Some flush) =

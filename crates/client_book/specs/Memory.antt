@@ -29,13 +29,17 @@ book_in m = book_of m.known m.remembered
 abbrev pub above_in : Known → Ino → List (Class × Hold) → List (Class × Hold)
 above_in known ino asked = filter (λ item. nat_lt (hold_number item.1) (hold_number (hold_in (inode_at known ino).holds item.0))) asked
 
--- how a Revoke is carried out: not at all, later, by a flush, or at once
-abbrev pub lowering_in : Known → Ino → List (Class × Hold) → Lowering
-lowering_in known ino asked =
-    if is_empty (above_in known ino asked) then Ignores
+-- how a Revoke is carried out of which these classes are held above what is asked: not at all, later, by a
+-- flush, or at once
+abbrev pub lowering_of : Known → Ino → List (Class × Hold) → Lowering
+lowering_of known ino above =
+    if is_empty above then Ignores
     else if not (is_settled known ino) then Remembers
     else if (inode_at known ino).file.unflushed then Flushes
     else Lowers
+
+abbrev pub lowering_in : Known → Ino → List (Class × Hold) → Lowering
+lowering_in known ino asked = lowering_of known ino (above_in known ino asked)
 
 -- holds of an inode are lowered, one after the other
 unfoldable pub lower_all : Known → Ino → List (Class × Hold) → Known

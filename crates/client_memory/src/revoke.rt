@@ -1,11 +1,10 @@
 ghost use Rattle.std.specs.Prelude.{◌≡◌, ◌<◌, ◌-◌, ◌^◌, OnOk, false, true};
 ghost use Rattle.client_cache.specs.Known.{inode_at, is_settled};
 ghost use Rattle.outbox.specs.Sending.{put_all};
-ghost use Rattle.client_memory.specs.Carrying.{lowering_of};
 ghost use Rattle.cluster_law.specs.Book.{Flushes, Lowers, Remembers};
 ghost use Rattle.client_book.specs.Sound.{IsRemembered};
 ghost use Rattle.cluster_law.specs.Lists.{is_empty};
-ghost use Rattle.client_book.specs.Memory.{lowered_in, revoked_in};
+ghost use Rattle.client_book.specs.Memory.{lowered_in, lowering_of, revoked_in};
 ghost use Rattle.client_book.specs.Made.{lowered_messages, revoking_in};
 
 use crate::carrying::{asked_or_read, is_empty, keep_above, lower_all, start};

@@ -8,6 +8,9 @@
 //!
 //! Promised: the client after a step is `value_after` of the client before it, the messages are `messages_in`,
 //! and the reply is `reply_at`, the definitions that keep the law of the cluster.
+//!
+//! A call owes that numbers are left: fewer than 2^63 calls were started, and the flushes so far and the waiting Revokes
+//! together are fewer than 2^63. After want of memory nothing is promised of a client: whoever has it drops it.
 #![tactic(auto)]
 
 mod client;

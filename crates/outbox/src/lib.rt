@@ -7,6 +7,8 @@
 //! Promised: what goes out are the messages that were put in, in their order, but for what is kept back
 //! ([`what_goes_out`]); and messages that are put in piece by piece go out as all of them at once
 //! ([`one_after_another`]).
+//!
+//! After want of memory nothing is promised of an outbox: the step that filled it has come to nothing.
 #![tactic(auto)]
 
 mod law;

@@ -1,0 +1,4 @@
+pub mod Counts
+pub mod Planning
+pub mod Refusing
+pub mod Taking

@@ -202,6 +202,7 @@ impl Desk {
     pub fn revoke(&mut self, blockers: &[Blocker]) -> Result<RevokeList, Oom>
         ensures revokes { IfOk result (λ revokes. revokes ≡ revokes_of self.old.asked blockers.now) }
         ensures asked { OnOk result (AsksAll self.old.asked self.new.asked blockers.now) }
+        ensures rest { OnOk result (self.new ≡ record self.old { asked = self.new.asked }) }
         ensures formed { IfOk result (λ revokes. AreAskable blockers.now → All (λ sent. IsRevoke sent.1) revokes) }
         ensures like { OnOk result ((start : ServerState) (before : List Act) (view : ℕ) → IsLike self.old (after_acts start before) → IsLike self.new (after_acts start (revoking view (revokes_of self.old.asked blockers.now) before))) }
         ensures err { OnErr result (self.new ≡ self.old) }

@@ -1,0 +1,4 @@
+mod Acting
+mod Asking
+mod Following
+mod Writing

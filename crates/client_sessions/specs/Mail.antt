@@ -1,5 +1,5 @@
 -- A server's ends of the sessions with its clients, and the packets that a step sends.
-use Rattle.std.specs.Prelude.{◌≡◌, ◌&&◌, ◌<◌, ◌++◌, ◌∷◌, [], ℕ, zero, suc, Bool, List, Option, Some, None, nat_lt, length, if◌then◌else◌, option_to_list, slice_index_or, slice_set}
+use Rattle.std.specs.Prelude.{◌≡◌, ◌&&◌, ◌<◌, ◌++◌, ◌∷◌, [], ℕ, zero, suc, Bool, List, Option, Some, None, nat_lt, not, length, filter, if◌then◌else◌, option_to_list, slice_index_or, slice_set}
 use Rattle.std.specs.List.{list_any}
 use Rattle.cal_base.specs.Limits.{clients}
 use Rattle.cal_base.specs.declared.identity.ClientId.{ClientId}
@@ -63,6 +63,18 @@ after_taking m = record { sessions = m.sessions; sent = [] }
 -- a packet is for a client
 abbrev pub is_to : ClientId → Packet → Bool
 is_to client p = same_node p.to (Client client)
+
+-- the packets that aren't for a client
+abbrev pub not_to : ClientId → List Packet → List Packet
+not_to client packets = filter (λ p. not (is_to client p)) packets
+
+-- a client's session is another one
+abbrev pub with_session : Mail → ClientId → SessionState → Mail
+with_session m client s = record { sessions = slice_set m.sessions client.0 s; sent = m.sent }
+
+-- a client's session is replaced by another, and what the step sends to the client is taken back
+abbrev pub after_replacing : Mail → ClientId → SessionState → Mail
+after_replacing m client s = record { sessions = slice_set m.sessions client.0 s; sent = not_to client m.sent }
 
 -- a packet for the client is among those of the step
 abbrev pub has_sent_in : Mail → ClientId → Bool

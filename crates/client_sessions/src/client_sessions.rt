@@ -1,10 +1,10 @@
-ghost use Rattle.std.specs.Prelude.{◌≡◌, ◌<◌, ◌^◌, ◌++◌, ◌↔◌, [], IsTrue, IfOk, IfSome, OnOk};
+ghost use Rattle.std.specs.Prelude.{◌≡◌, ◌<◌, ◌^◌, ◌++◌, ◌↔◌, [], not, IsTrue, IfOk, IfSome, OnOk};
 ghost use Rattle.std.specs.List.{list_any};
 ghost use Rattle.cal_base.specs.Limits.{clients};
 ghost use Rattle.message.specs.Range.{IsMessage};
 ghost use Rattle.message.specs.Spelling.{message_bytes};
 ghost use Rattle.session.specs.Session.{IsCounted, body_of, unacknowledged};
-ghost use Rattle.client_sessions.specs.Mail.{after_acknowledging, after_hearing, after_resending, after_sending, after_taking, first_mail, has_sent_in, heard_as, heard_in, is_to, new_sessions, session_at};
+ghost use Rattle.client_sessions.specs.Mail.{after_acknowledging, after_hearing, after_replacing, after_resending, after_sending, after_taking, first_mail, has_sent_in, heard_as, heard_in, is_to, new_sessions, not_to, session_at, with_session};
 
 use cal_base::{CLIENTS, ClientId, Items, NodeId, Oom, ServerId, View};
 use message::{Message, encode};
@@ -74,6 +74,19 @@ impl ClientSessions {
             None => Ok(()),
             Some(packet) => self.sent.push(packet),
         }
+    }
+
+    /// Takes the client's session from others, which get this one, and takes back what this step sends to the
+    /// client. It takes no memory.
+    pub fn replace(&mut self, client: ClientId, others: &mut ClientSessions)
+        requires { client.0 < clients }
+        ensures state { self.new ≡ after_replacing self.old client (session_at others.old client) }
+        ensures others { others.new ≡ with_session others.old client (session_at self.old client) }
+    {
+        let sent = self.take_sent();
+        self.sent = not_to(client, sent);
+        let place = client.0 as usize;
+        mem::swap(&mut self.sessions[place], &mut others.sessions[place]);
     }
 
     /// Sends the oldest unacknowledged message to the client again, if there is one.
@@ -182,6 +195,19 @@ fn send_all(sent: &mut Items<Packet>, packets: Items<Packet>) -> Result<(), Oom>
         sent.push(packet)?;
     }
     Ok(())
+}
+
+/// The packets that aren't for the client.
+fn not_to(client: ClientId, sent: Items<Packet>) -> Items<Packet>
+    ensures { result ≡ not_to client sent }
+{
+    let mut packets = sent.into_vec();
+    packets.retain(
+        |packet: &Packet| -> bool
+            ensures { result ≡ not (is_to client packet.now) }
+        { !is_to(client, packet) },
+    );
+    Items::from_vec(packets)
 }
 
 fn is_to(client: ClientId, packet: &Packet) -> bool

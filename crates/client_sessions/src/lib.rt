@@ -5,7 +5,8 @@
 //! [`ClientSessions::hear`]); a message is numbered and kept by the session of its client
 //! ([`ClientSessions::send`]), sent again ([`ClientSessions::resend`]) until it is acknowledged, and what was
 //! taken is acknowledged by itself ([`ClientSessions::acknowledge`]) where no packet goes to that client
-//! ([`ClientSessions::has_sent`]). [`ClientSessions::take_sent`] hands on the packets of the step.
+//! ([`ClientSessions::has_sent`]). [`ClientSessions::replace`] puts another session in the place of a client's, and
+//! takes back what the step sends to that client. [`ClientSessions::take_sent`] hands on the packets of the step.
 //!
 //! Each call's meaning is one definition on all sessions and packets (specs/Mail.antt), and no call touches the
 //! session of another client. The sessions stay those of the server and the view for which they were made

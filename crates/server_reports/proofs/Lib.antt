@@ -1,0 +1,4 @@
+mod Putting
+mod Asking
+mod Admits
+mod Collects

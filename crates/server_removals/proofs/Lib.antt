@@ -1,0 +1,5 @@
+mod Firsts
+mod Deserting
+mod MakingFinal
+mod AskingBack
+mod Resting

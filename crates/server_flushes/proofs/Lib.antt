@@ -1,0 +1,4 @@
+mod Readings
+mod Room
+mod Commits
+mod Tellings

@@ -1,0 +1,35 @@
+use Rattle.std.proofs.Common.{refl, sym, ◌∙◌}
+use Rattle.std.proofs.lemmas.Bool.{leb-true, true≢false}
+use Rattle.server_flushes.specs.Flushes.{knowing}
+use Rattle.server_flushes.proofs.Readings.{lasts, lasts-used, next-used, passed, start-uses}
+use Rattle.server_flushes.proofs.Tellings.{nothing-told, nothing-told-yet, counted}
+use Rattle.server_flushes.proofs.flushing.take_flush.Goals as goal
+
+pub returns-in_ok-tell_flushed-in-Lasts-clause-follows : goal.returns-in_ok-tell_flushed-in-Lasts-clause-follows
+returns-in_ok-tell_flushed-in-Lasts-clause-follows c view o start follows none took =
+    let d = c.args.draft.now in
+    c.in_ok-tell_flushed-in-Lasts.ensures.follows view o start c.args.flush follows took refl
+    (leb-true _ _ (lasts (knowing d) c.args.client c.args.flush c.in-Lasts.ensures.standing)) (nothing-told view c.args.client.0 d.acts none)
+
+pub returns-in_ok-tell_flushed-in-Lasts-clause-passes : goal.returns-in_ok-tell_flushed-in-Lasts-clause-passes
+returns-in_ok-tell_flushed-in-Lasts-clause-passes c view o start follows none unused =
+    let d = c.args.draft.now in
+    absurd (true≢false (sym (lasts-used (knowing d) c.args.client c.args.flush c.in-Lasts.ensures.standing) ∙ sym (start-uses view o start d follows c.args.client c.args.flush none) ∙ unused))
+
+pub returns-in_ok-tell_flushed-in-Next-clause-follows : goal.returns-in_ok-tell_flushed-in-Next-clause-follows
+returns-in_ok-tell_flushed-in-Next-clause-follows c view o start follows none took =
+    let d = c.args.draft.now in
+    let new = c.commit_flush.new.draft in
+    let commits = c.in_ok-commit_flush-in-Next.ensures.commits in
+    c.in_ok-tell_flushed-in-Next.ensures.follows view o start c.args.flush (c.in_ok-commit_flush-in-Next.ensures.follows view o start follows none took) took refl
+    (counted c.args.client c.args.flush d new commits c.in-Next.ensures.volume c.requires.client) (nothing-told-yet view c.args.client.0 c.args.client c.args.flush d new commits none)
+
+pub returns-in_ok-tell_flushed-in-Next-clause-passes : goal.returns-in_ok-tell_flushed-in-Next-clause-passes
+returns-in_ok-tell_flushed-in-Next-clause-passes c view o start follows none unused =
+    let d = c.args.draft.now in
+    absurd (true≢false (sym (next-used (knowing d) c.args.client c.args.flush (sym c.in-Next.ensures.standing)) ∙ sym (start-uses view o start d follows c.args.client c.args.flush none) ∙ unused))
+
+pub returns-in-PassedOver-clause-told : goal.returns-in-PassedOver-clause-told
+returns-in-PassedOver-clause-told c view o start follows none used =
+    let d = c.args.draft.now in
+    absurd (true≢false (sym used ∙ start-uses view o start d follows c.args.client c.args.flush none ∙ passed (knowing d) c.args.client c.args.flush c.in-PassedOver.ensures.standing))

@@ -1,5 +1,6 @@
 -- The writes and the entries of acts, one act after the other.
 use Rattle.std.proofs.Common.{◌≡◌, ◌≤◌, ◌<◌, ◌+◌, ◌*◌, ◌++◌, ◌∷◌, [], ℕ, List, length, map, take, drop, get_or, refl, sym, ap, ◌∙◌, arith, append_assoc, length-append}
+use Rattle.std.specs.Prelude.{OnErr, Result, Ok, Err}
 use Rattle.std.proofs.lemmas.List.{append-nil, take_all, take_more, take-append-drop}
 use Rattle.journal.specs.Commit.{commit_writes}
 use Rattle.journal.proofs.OpeningLemmas.{length-commit}
@@ -104,3 +105,8 @@ entries_next view xs i d x within is =
 -- all acts were met
 pub planned_whole : (view : ℕ) (xs : List Act) (i : ℕ) → length xs ≤ i → planned (take i xs) ≡ writes_of_acts (acts_of view xs)
 planned_whole view xs i h = ap planned (take_all i xs h) ∙ sym (planned_is view xs)
+
+-- a fact stands also where a result is an error
+pub on_err : {T E P : Type 0} (r : Result T E) → P → OnErr r P
+on_err (Ok done) h = tt
+on_err (Err why) h = h

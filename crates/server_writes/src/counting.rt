@@ -1,4 +1,4 @@
-ghost use Rattle.std.specs.Prelude.{◌≡◌, ◌<◌, ◌+◌, ◌^◌, ℕ, IfOk, length};
+ghost use Rattle.std.specs.Prelude.{◌≡◌, ◌≤◌, ◌<◌, ◌+◌, ◌^◌, ℕ, IfOk, OnErr, length};
 ghost use Rattle.cluster_law.specs.History.{writes_of_acts};
 ghost use Rattle.server_draft.specs.Acts.{acts_of};
 ghost use Rattle.server_writes.specs.Planned.{writes_by};
@@ -7,9 +7,10 @@ use cal_base::Oom;
 use journal::commit_length;
 use server_draft::Act;
 
-/// How many writes some acts make. Acts with more than can be counted have no room in memory.
+/// How many writes some acts make. It answers want of memory only where they can't be counted, and takes none.
 pub fn count_writes(acts: &[Act]) -> Result<usize, Oom>
-    ensures { IfOk result (λ count. (view : ℕ) → count ≡ length (writes_of_acts (acts_of view acts.now))) }
+    ensures many { OnErr result ((view : ℕ) → 2 ^ 64 ≤ length (writes_of_acts (acts_of view acts.now))) }
+    ensures count { IfOk result (λ count. (view : ℕ) → count ≡ length (writes_of_acts (acts_of view acts.now))) }
 {
     let mut count = 0;
     for act in acts {
@@ -20,7 +21,8 @@ pub fn count_writes(acts: &[Act]) -> Result<usize, Oom>
 
 /// A count of writes with those of an act.
 fn with_writes(count: usize, act: &Act) -> Result<usize, Oom>
-    ensures { IfOk result (λ sum. sum ≡ count + length (writes_by act.now)) }
+    ensures many { OnErr result (2 ^ 64 ≤ count + length (writes_by act.now)) }
+    ensures count { IfOk result (λ sum. sum ≡ count + length (writes_by act.now)) }
 {
     match act {
         Act::Commits(commit) => {
@@ -34,7 +36,8 @@ fn with_writes(count: usize, act: &Act) -> Result<usize, Oom>
 
 /// The sum, where it can be counted.
 fn sum(a: usize, b: usize) -> Result<usize, Oom>
-    ensures { IfOk result (λ sum. sum ≡ a + b) }
+    ensures many { OnErr result (2 ^ 64 ≤ a + b) }
+    ensures sum { IfOk result (λ sum. sum ≡ a + b) }
 {
     match a.checked_add(b) {
         Some(sum) => Ok(sum),

@@ -1,0 +1,5 @@
+mod Addressed
+mod Coming
+mod Repeating
+mod Telling
+mod Owing

@@ -1,17 +1,22 @@
 -- To whom packets go, and what that is for one client.
-use Rattle.std.proofs.Common.{◌⊎◌, zero, suc, ◌≡◌, ◌<◌, ◌+◌, ◌++◌, ◌∷◌, [], ℕ, Bool, true, false, Some, None, List, length, get_or, slice_set, filter, option_to_list, if◌then◌else◌, nat_eq, nat_lt, ap, refl, sym, subst, ◌∙◌, arith, inl, inr}
+use Rattle.std.proofs.Common.{◌⊎◌, zero, suc, ◌≡◌, ◌<◌, ◌+◌, ◌++◌, ◌∷◌, ◌&&◌, [], ℕ, Bool, true, false, Some, None, List, length, get_or, slice_set, filter, option_to_list, if◌then◌else◌, nat_eq, nat_lt, ap, refl, sym, subst, ◌∙◌, arith, inl, inr}
 use Rattle.std.proofs.lemmas.Bool.{cases_eq, eqb-true}
 use Rattle.std.proofs.lemmas.Bool.Decides.{nat_tests}
 use Rattle.std.proofs.lemmas.List.{get_or-set_other, get_or-set_same}
 use Rattle.std.proofs.lemmas.List.Elements.{filter-append}
-use Rattle.cal_base.specs.Limits.{unacknowledged as max_unacknowledged}
+use Rattle.cal_base.specs.Limits.{clients, unacknowledged as max_unacknowledged}
 use Rattle.cal_base.specs.declared.identity.ClientId.{ClientId}
 use Rattle.cal_base.specs.declared.identity.NodeId.{NodeId}
 use Rattle.cal_base.specs.declared.identity.NodeId.TheVariants.{Client}
+use Rattle.cal_base.specs.declared.identity.ServerId.{ServerId}
+use Rattle.cal_base.specs.declared.identity.View.{View}
 use Rattle.session.specs.Session.{SessionState, is_of_session, let_out, oldest_packet, opened_packets, packet_of, packets_from, same_node, sent_packet}
 use Rattle.session.specs.declared.packet.Packet.{Packet}
-use Rattle.client_sessions.specs.Mail.{is_to, no_session}
+use Rattle.client_sessions.specs.Mail.{IsBetween, Mail, is_to, no_session}
+use Rattle.cluster_law.specs.Lanes.{Down}
 use Rattle.cluster_law.specs.Lists.{Each}
+use Rattle.cluster_law.specs.Sessions.{goes_on, is_lane, lane_between}
+use Rattle.server_mail.specs.Step.{AllGoOut, GoesOut, packets_to}
 
 -- packets that all go to one node
 abbrev pub AllTo : NodeId → List Packet → Type 0
@@ -24,28 +29,36 @@ same-number n = grind (arith, nat_tests)
 pub same-client : (a b : ClientId) → nat_eq a.0 b.0 ≡ true → a ≡ b
 same-client a b h = let q : a.0 ≡ b.0 = eqb-true a.0 b.0 h in λ i. record { 0 = q i }
 
--- what a session sends goes to its peer
-from-to : (s : SessionState) (node : NodeId) (taken number : ℕ) (bodies : List (List ℕ)) → s.peer ≡ node → AllTo node (packets_from s taken number bodies)
-from-to s node taken number [] peer = tt
-from-to s node taken number (body ∷ bodies) peer = (peer, from-to s node taken (number + 1) bodies peer)
+-- what holds of each packet that a session may make, holds of each that it sends
+from-each : (P : Packet → Type 0) (s : SessionState) (taken number : ℕ) (bodies : List (List ℕ)) → ((t n : ℕ) (body : List ℕ) → P (packet_of s t n body)) → Each P (packets_from s taken number bodies)
+from-each P s taken number [] made = tt
+from-each P s taken number (body ∷ bodies) made = (made taken number body, from-each P s taken (number + 1) bodies made)
 
-pub out-to : (s : SessionState) (node : NodeId) (p : Packet) → s.peer ≡ node → AllTo node (let_out s p)
-out-to s node p peer = by (is_of_session s p)
+pub out-each : (P : Packet → Type 0) (s : SessionState) (p : Packet) → ((t n : ℕ) (body : List ℕ) → P (packet_of s t n body)) → Each P (let_out s p)
+out-each P s p made = by (is_of_session s p)
   where
-    by : (b : Bool) → AllTo node (if b then opened_packets s p else [])
-    by true = from-to s node _ _ _ peer
+    by : (b : Bool) → Each P (if b then opened_packets s p else [])
+    by true = from-each P s _ _ _ made
     by false = tt
 
-pub sent-to : (s : SessionState) (node : NodeId) (body : List ℕ) → s.peer ≡ node → AllTo node (option_to_list (sent_packet s body))
-sent-to s node body peer = by (nat_lt (length s.bodies) max_unacknowledged)
+pub sent-each : (P : Packet → Type 0) (s : SessionState) (body : List ℕ) → ((t n : ℕ) (body : List ℕ) → P (packet_of s t n body)) → Each P (option_to_list (sent_packet s body))
+sent-each P s body made = by (nat_lt (length s.bodies) max_unacknowledged)
   where
-    by : (b : Bool) → AllTo node (option_to_list (if b then Some (packet_of s s.taken (s.acknowledged + length s.bodies + 1) body) else None))
-    by true = (peer, tt)
+    by : (b : Bool) → Each P (option_to_list (if b then Some (packet_of s s.taken (s.acknowledged + length s.bodies + 1) body) else None))
+    by true = (made _ _ body, tt)
     by false = tt
 
-pub oldest-to : (s : SessionState) (node : NodeId) (bodies : List (List ℕ)) → s.peer ≡ node → AllTo node (option_to_list (oldest_packet s bodies))
-oldest-to s node [] peer = tt
-oldest-to s node (body ∷ bodies) peer = (peer, tt)
+pub oldest-each : (P : Packet → Type 0) (s : SessionState) (bodies : List (List ℕ)) → ((t n : ℕ) (body : List ℕ) → P (packet_of s t n body)) → Each P (option_to_list (oldest_packet s bodies))
+oldest-each P s [] made = tt
+oldest-each P s (body ∷ bodies) made = (made _ _ body, tt)
+
+-- the packets of a session between the server and a client go out
+pub made-out : (server : ServerId) (client : ClientId) (view : View) (s : SessionState) → client.0 < clients → IsBetween server client view s → (t n : ℕ) (body : List ℕ) → GoesOut server view (packet_of s t n body)
+made-out server client view s within between t n body = record { client = client; from = between.me; to = between.peer; of_view = between.of_view; within = within }
+
+pub each-append : (P : Packet → Type 0) (xs ys : List Packet) → Each P xs → Each P ys → Each P (xs ++ ys)
+each-append P [] ys these those = those
+each-append P (x ∷ xs) ys these those = (these.0, each-append P xs ys these.1 those)
 
 -- a packet to a client is for that client alone
 nodes-are : (a b : ClientId) → same_node (Client a) (Client b) ≡ nat_eq a.0 b.0
@@ -95,3 +108,24 @@ set-or (x ∷ sessions) (suc at) (suc client) s =
       | inl set ↦ inl (ap suc set.0, set.1)
       | inr stays ↦ inr stays
     ]
+
+-- a packet that goes out is on the lane of its client
+pub lane-test : (a b : Bool) → b ≡ true → (a && b && true) ≡ a
+lane-test true true e = refl
+lane-test false true e = refl
+lane-test a false e = cc
+
+lane-is : (server : ServerId) (view : View) (client : ClientId) (p : Packet) → GoesOut server view p → goes_on (record { client = client.0; view = view.0; way = Down }) p ≡ is_to client p
+lane-is server view client p out =
+    (λ i. is_lane (lane_between (out.from i) (out.to i) (out.of_view i).0) (record { client = client.0; view = view.0; way = Down }))
+    ∙ lane-test (nat_eq out.client.0 client.0) (nat_eq view.0 view.0) (same-number view.0)
+    ∙ sym (to-is client out.client p out.to)
+
+on-lane : (server : ServerId) (view : View) (client : ClientId) (packets : List Packet) → Each (GoesOut server view) packets → filter (goes_on (record { client = client.0; view = view.0; way = Down })) packets ≡ filter (is_to client) packets
+on-lane server view client [] out = refl
+on-lane server view client (p ∷ packets) out =
+    ap (λ (t : Bool). if t then p ∷ filter (goes_on (record { client = client.0; view = view.0; way = Down })) packets else filter (goes_on (record { client = client.0; view = view.0; way = Down })) packets) (lane-is server view client p out.0)
+    ∙ ap (λ (rest : List Packet). if is_to client p then p ∷ rest else rest) (on-lane server view client packets out.1)
+
+pub lane-has : (server : ServerId) (view : View) (client : ClientId) (m : Mail) → AllGoOut server view m → filter (goes_on (record { client = client.0; view = view.0; way = Down })) m.sent ≡ packets_to client m
+lane-has server view client m out = on-lane server view client m.sent out

@@ -1,5 +1,5 @@
 -- What a packet that has come is to each client.
-use Rattle.std.proofs.Common.{◌≤◌, ◌||◌, ◌+◌, ℕ, inl, inr, get_or, slice_set, ◌≡◌, ◌<◌, ◌++◌, ◌&&◌, [], Bool, true, false, not, Option, Some, None, if◌then◌else◌, nat_eq, nat_lt, length, ap, refl, sym, ◌∙◌, arith}
+use Rattle.std.proofs.Common.{◌≤◌, ◌||◌, ◌+◌, ℕ, inl, inr, get_or, slice_set, ◌≡◌, ◌<◌, ◌++◌, ◌&&◌, [], Bool, true, false, not, Option, Some, None, if◌then◌else◌, nat_eq, nat_lt, length, ap, refl, sym, subst, ◌∙◌, arith}
 use Rattle.std.proofs.lemmas.Bool.Decides.{nat_tests}
 use Rattle.std.proofs.lemmas.List.{append-nil}
 use Rattle.cal_base.specs.Limits.{clients}
@@ -15,8 +15,8 @@ use Rattle.volume.specs.Volume.{Volume}
 use Rattle.cluster_law.specs.Ends.{hearing}
 use Rattle.cluster_law.specs.Lists.{only_if}
 use Rattle.lane_facts.specs.Speaking.{opened_by}
-use Rattle.server_mail.specs.Step.{after_coming, heard_from, is_purged, packets_to, part_of}
-use Rattle.server_mail.proofs.Addressed.{at-set, out-to, put-to, same-client, set-or}
+use Rattle.server_mail.specs.Step.{AllGoOut, GoesOut, after_coming, heard_from, is_purged, packets_to, part_of}
+use Rattle.server_mail.proofs.Addressed.{at-set, each-append, made-out, out-each, put-to, same-client, set-or}
 
 -- a packet is heard in the session with a client alone to which it belongs
 abbrev pub Belongs : Mail → Packet → Option ClientId → Type 0
@@ -61,17 +61,20 @@ session-part m p (Some at) client within there = at-set m.sessions at client (he
         ∙ ap (λ (c : ClientId). after_packet (session_at m c) p) (same-client at client e)
     by false e = refl
 
-packets-part : (server : ServerId) (view : View) (m : Mail) (p : Packet) (from : Option ClientId) (client : ClientId) → AreBetween server view m → Belongs m p from
-    → packets_to client (after_coming m p from) ≡ packets_to client m ++ opened_by (session_at m client) (part_of client p from)
-packets-part server view m p None client between there = sym (append-nil (packets_to client m))
-packets-part server view m p (Some at) client between there =
-    put-to client at m.sent (let_out (session_at m at) p) (out-to (session_at m at) (Client at) p (between.each at (inside (nat_lt at.0 clients) refl there)).peer)
-    ∙ by (nat_eq at.0 client.0) refl
+belongs-within : (m : Mail) (p : Packet) (at : ClientId) → is_heard_from m at p ≡ true → at.0 < clients
+belongs-within m p at there = inside (nat_lt at.0 clients) refl there
   where
     inside : (t : Bool) → nat_lt at.0 clients ≡ t → (t && is_of_session (session_at m at) p) ≡ true → at.0 < clients
     inside true e h = grind (arith, nat_tests, e)
     inside false e h = cc
 
+packets-part : (server : ServerId) (view : View) (m : Mail) (p : Packet) (from : Option ClientId) (client : ClientId) → AreBetween server view m → Belongs m p from
+    → packets_to client (after_coming m p from) ≡ packets_to client m ++ opened_by (session_at m client) (part_of client p from)
+packets-part server view m p None client between there = sym (append-nil (packets_to client m))
+packets-part server view m p (Some at) client between there =
+    put-to client at m.sent (let_out (session_at m at) p) (out-each (λ q. q.to ≡ Client at) (session_at m at) p (λ t n body. (between.each at (belongs-within m p at there)).peer))
+    ∙ by (nat_eq at.0 client.0) refl
+  where
     by : (t : Bool) → nat_eq at.0 client.0 ≡ t → packets_to client m ++ (if t then let_out (session_at m at) p else []) ≡ packets_to client m ++ opened_by (session_at m client) (if t then Some p else None)
     by true e = ap (λ (c : ClientId). packets_to client m ++ let_out (session_at m c) p) (same-client at client e)
     by false e = refl
@@ -120,3 +123,13 @@ hearing-steps m new p from client is =
     let steps = ap (λ (k : Mail). (session_at k client).steps) is in
     let few = coming-steps m p from client in
     omega (arith, steps, few)
+
+-- what a packet lets out goes out
+coming-out : (server : ServerId) (view : View) (m : Mail) (p : Packet) (from : Option ClientId) → AreBetween server view m → Belongs m p from → AllGoOut server view m → AllGoOut server view (after_coming m p from)
+coming-out server view m p None between there out = out
+coming-out server view m p (Some at) between there out =
+    let within = belongs-within m p at there in
+    each-append (GoesOut server view) m.sent (let_out (session_at m at) p) out (out-each (GoesOut server view) (session_at m at) p (made-out server at view (session_at m at) within (between.each at within)))
+
+pub hearing-out : (server : ServerId) (view : View) (m new : Mail) (volume : Volume) (p : Packet) → new ≡ after_coming m p (heard_from m volume p) → AreBetween server view m → AllGoOut server view m → AllGoOut server view new
+hearing-out server view m new volume p is between out = subst (AllGoOut server view) (sym is) (coming-out server view m p (heard_from m volume p) between (belongs m volume p) out)

@@ -12,8 +12,8 @@ use Rattle.session.specs.declared.packet.Packet.{Packet}
 use Rattle.client_sessions.specs.Mail.{AreBetween, Mail, after_acknowledging, has_sent_in, is_to, session_at}
 use Rattle.cluster_law.specs.Delivery.{has_number}
 use Rattle.cluster_law.specs.Lists.{is_empty}
-use Rattle.server_mail.specs.Step.{after_answering, bare_to, is_owed, owed, packets_to, part_of}
-use Rattle.server_mail.proofs.Addressed.{put-to, same-client}
+use Rattle.server_mail.specs.Step.{AllGoOut, GoesOut, after_answering, bare_to, is_owed, owed, packets_to, part_of}
+use Rattle.server_mail.proofs.Addressed.{each-append, made-out, put-to, same-client}
 
 -- a client is owed an acknowledgement where its session hears a packet with a number
 pub owed-where-heard : (client : ClientId) (p : Packet) (from : Option ClientId) → is_owed client (owed p from) ≡ has_number (part_of client p from)
@@ -63,3 +63,11 @@ pub acknowledges : (server : ServerId) (view : View) (m new : Mail) (answers : O
 acknowledges server view m new answers at client asked is between bound =
     let within : at.0 < clients = subst (λ (o : Option ClientId). IfSome o (λ c. c.0 < clients)) asked bound in
     ap (packets_to client) is ∙ bare-where-owed m at client (between.each at within).peer ∙ sym (ap (λ (list : Option ClientId). packets_to client m ++ bare_to client m list) asked)
+
+pub acknowledges-out : (server : ServerId) (view : View) (m new : Mail) (answers : Option ClientId) → new ≡ after_answering m answers → AreBetween server view m → IfSome answers (λ c. c.0 < clients) → AllGoOut server view m → AllGoOut server view new
+acknowledges-out server view m new None is between bound out = subst (AllGoOut server view) (sym is) out
+acknowledges-out server view m new (Some at) is between within out = subst (AllGoOut server view) (sym is) (by (has_sent_in m at))
+  where
+    by : (t : Bool) → AllGoOut server view (if t then m else after_acknowledging m at)
+    by true = out
+    by false = each-append (GoesOut server view) m.sent (bare_ack_of (session_at m at) ∷ []) out (made-out server at view (session_at m at) within (between.each at within) _ _ _, tt)

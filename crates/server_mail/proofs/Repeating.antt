@@ -1,5 +1,5 @@
 -- What is sent again to each client, by the clients to which it was sent so far.
-use Rattle.std.proofs.Common.{◌≡◌, ◌<◌, ◌+◌, ◌++◌, [], ℕ, Bool, true, false, List, if◌then◌else◌, nat_eq, nat_lt, get_or, option_to_list, ap, refl, sym, ◌∙◌, arith, inl, inr}
+use Rattle.std.proofs.Common.{◌≡◌, ◌<◌, ◌+◌, ◌++◌, [], ℕ, Bool, true, false, List, if◌then◌else◌, nat_eq, nat_lt, get_or, option_to_list, ap, refl, sym, subst, ◌∙◌, arith, inl, inr}
 use Rattle.std.proofs.lemmas.Bool.{cases_eq, cases_lt}
 use Rattle.std.proofs.lemmas.Bool.Decides.{nat_tests}
 use Rattle.std.proofs.lemmas.List.{append-nil}
@@ -10,18 +10,19 @@ use Rattle.cal_base.specs.declared.identity.ServerId.{ServerId}
 use Rattle.cal_base.specs.declared.identity.View.{View}
 use Rattle.session.specs.Session.{SessionState, tick_packet}
 use Rattle.session.specs.declared.packet.Packet.{Packet}
-use Rattle.client_sessions.specs.Mail.{AreBetween, Mail, after_resending, no_session, session_at}
+use Rattle.client_sessions.specs.Mail.{AreBetween, IsBetween, Mail, after_resending, no_session, session_at}
 use Rattle.volume.specs.Volume.{Volume}
-use Rattle.server_mail.specs.Step.{after_tick_to, is_purged, packets_to, resent}
-use Rattle.server_mail.proofs.Addressed.{oldest-to, put-to, same-client}
+use Rattle.server_mail.specs.Step.{AllGoOut, GoesOut, after_tick_to, is_purged, packets_to, resent}
+use Rattle.server_mail.proofs.Addressed.{each-append, made-out, oldest-each, put-to, same-client}
 
 -- the clients below a number were sent their oldest message again
 pub record ResentBelow (volume : Volume) (old : Mail) (number : ℕ) (new : Mail) : Type 0 where
   pub sessions : new.sessions ≡ old.sessions
   pub sent : (server : ServerId) (view : View) (client : ClientId) → AreBetween server view old → packets_to client new ≡ packets_to client old ++ (if nat_lt client.0 number then resent volume old client else [])
+  pub out : (server : ServerId) (view : View) → AreBetween server view old → AllGoOut server view old → AllGoOut server view new
 
 pub resent-none : (volume : Volume) (old : Mail) → ResentBelow volume old 0 old
-resent-none volume old = record { sessions = refl; sent = λ server view client between. sym (ap (λ (t : Bool). packets_to client old ++ (if t then resent volume old client else [])) (let q : nat_lt client.0 0 ≡ false = grind (arith, nat_tests) in q) ∙ append-nil (packets_to client old)) }
+resent-none volume old = record { sessions = refl; sent = λ server view client between. sym (ap (λ (t : Bool). packets_to client old ++ (if t then resent volume old client else [])) (let q : nat_lt client.0 0 ≡ false = grind (arith, nat_tests) in q) ∙ append-nil (packets_to client old)); out = λ server view between out. out }
 
 -- one more is
 same-sessions : (volume : Volume) (m : Mail) (at : ClientId) → (after_tick_to volume m at).sessions ≡ m.sessions
@@ -42,13 +43,20 @@ put-again volume m at client peer = by (is_purged volume at) (nat_eq at.0 client
     by true false e h = sym (append-nil (packets_to client m))
     by false true e h =
         let present : is_purged volume client ≡ false = ap (is_purged volume) (sym (same-client at client h)) ∙ e in
-        put-to client at m.sent (option_to_list (tick_packet (session_at m at))) (oldest-to (session_at m at) (Client at) (session_at m at).bodies peer)
+        put-to client at m.sent (option_to_list (tick_packet (session_at m at))) (oldest-each (λ q. q.to ≡ Client at) (session_at m at) (session_at m at).bodies (λ t n body. peer))
         ∙ ap (λ (q : Bool). packets_to client m ++ (if q then option_to_list (tick_packet (session_at m at)) else [])) h
         ∙ ap (λ (c : ClientId). packets_to client m ++ option_to_list (tick_packet (session_at m c))) (same-client at client h)
         ∙ sym (ap (λ (q : Bool). packets_to client m ++ (if q then [] else option_to_list (tick_packet (session_at m client)))) present)
     by false false e h =
-        put-to client at m.sent (option_to_list (tick_packet (session_at m at))) (oldest-to (session_at m at) (Client at) (session_at m at).bodies peer)
+        put-to client at m.sent (option_to_list (tick_packet (session_at m at))) (oldest-each (λ q. q.to ≡ Client at) (session_at m at) (session_at m at).bodies (λ t n body. peer))
         ∙ ap (λ (q : Bool). packets_to client m ++ (if q then option_to_list (tick_packet (session_at m at)) else [])) h
+
+again-out : (server : ServerId) (view : View) (volume : Volume) (m : Mail) (at : ClientId) → at.0 < clients → IsBetween server at view (session_at m at) → AllGoOut server view m → AllGoOut server view (after_tick_to volume m at)
+again-out server view volume m at within between out = by (is_purged volume at)
+  where
+    by : (t : Bool) → AllGoOut server view (if t then m else after_resending m at)
+    by true = out
+    by false = each-append (GoesOut server view) m.sent _ out (oldest-each (GoesOut server view) (session_at m at) (session_at m at).bodies (made-out server at view (session_at m at) within between))
 
 -- a client is below a number, or the next one, or neither
 joined : (client number : ℕ) (packets before : List Packet)
@@ -79,6 +87,10 @@ resent-more volume old mid new number within so is = record {
       ∙ ap (λ (list : List Packet). list ++ (if nat_eq number client.0 then resent volume mid client else [])) (so.sent server view client between)
       ∙ ap (λ (s : SessionState). packets_to client old ++ (if nat_lt client.0 number then resent volume old client else []) ++ (if nat_eq number client.0 then (if is_purged volume client then [] else option_to_list (tick_packet s)) else [])) (as-old client)
       ∙ joined client.0 number (resent volume old client) (packets_to client old);
+  out = λ server view between out.
+      let at-old : session_at mid (record { 0 = number }) ≡ session_at old (record { 0 = number }) = ap (λ (list : List SessionState). get_or list number no_session) so.sessions in
+      subst (AllGoOut server view) (sym is)
+      (again-out server view volume mid (record { 0 = number }) within (subst (IsBetween server (record { 0 = number }) view) (sym at-old) (between.each (record { 0 = number }) within)) (so.out server view between out));
 }
 
 -- all are

@@ -1,5 +1,5 @@
 -- The messages that acts make, each in the session of its client.
-use Rattle.std.proofs.Common.{◌≡◌, ◌<◌, ◌≤◌, ◌+◌, ◌^◌, ◌++◌, ◌∷◌, ◌&&◌, [], ℕ, Bool, true, false, List, All, if◌then◌else◌, nat_eq, length, get_or, slice_set, map, drop, option_to_list, ap, refl, sym, subst, ◌∙◌, arith, inl, inr}
+use Rattle.std.proofs.Common.{◌≡◌, ◌<◌, ◌≤◌, ◌+◌, ◌^◌, ◌++◌, ◌∷◌, [], ℕ, Bool, true, false, List, All, if◌then◌else◌, nat_eq, length, get_or, slice_set, map, drop, option_to_list, ap, refl, sym, subst, ◌∙◌, arith, inl, inr}
 use Rattle.std.proofs.lemmas.List.{append_assoc, append-nil, at_drop_all, drop_more, length-append, length-map}
 use Rattle.std.proofs.lemmas.List.Elements.{All-head, All-tail}
 use Rattle.cal_base.specs.Limits.{clients}
@@ -20,8 +20,8 @@ use Rattle.lane_facts.specs.Speaking.{packets_with}
 use Rattle.server_draft.specs.Acts.{CanBeDone, act_of, acts_of}
 use Rattle.server_draft.specs.declared.act.Act.{Act}
 use Rattle.server_draft.specs.declared.act.Act.TheVariants.{Tells, Commits, Drops}
-use Rattle.server_mail.specs.Step.{HasRoom, after_act, bodies_to, packets_to, tells, told_to}
-use Rattle.server_mail.proofs.Addressed.{at-set, put-to, same-client, same-number, sent-to, set-or}
+use Rattle.server_mail.specs.Step.{AllGoOut, GoesOut, HasRoom, after_act, bodies_to, packets_to, tells, told_to}
+use Rattle.server_mail.proofs.Addressed.{at-set, each-append, lane-test, made-out, put-to, same-client, same-number, sent-each, set-or}
 
 -- the messages of some acts are sent, one after the other
 abbrev pub after_acts : Mail → List Act → Mail
@@ -39,11 +39,6 @@ messages_to client [] = []
 messages_to client (act ∷ acts) = messages_for client act ++ messages_to client acts
 
 -- the law makes the same on the lane of the client
-lane-test : (a b : Bool) → b ≡ true → (a && b && true) ≡ a
-lane-test true true e = refl
-lane-test false true e = refl
-lane-test a false e = cc
-
 lane-one : (view client : ℕ) (act : Act) (before : List law.Act)
     → told_in (record { client = client; view = view; way = law.Down }) (act_of view act ∷ before) ≡ told_in (record { client = client; view = view; way = law.Down }) before ++ messages_for client act
 unfolding told_in
@@ -146,7 +141,7 @@ packets-one server view m (Tells at message) client rest can between within =
     let count = between.count in
     let sent = option_to_list (sent_packet (session_at m at) (message_bytes message)) in
     ap (λ (list : List Packet). list ++ packets_with (session_at (after_sending m at (message_bytes message)) client) (map message_bytes rest))
-    (put-to client at m.sent sent (sent-to (session_at m at) (Client at) (message_bytes message) (between.each at can.0).peer))
+    (put-to client at m.sent sent (sent-each (λ q. q.to ≡ Client at) (session_at m at) (message_bytes message) (λ t n body. (between.each at can.0).peer)))
     ∙ ap (λ (s : SessionState). packets_to client m ++ (if nat_eq at.0 client.0 then sent else []) ++ packets_with s (map message_bytes rest))
     (at-set m.sessions at client (after_send (session_at m at) (message_bytes message)) (omega (arith, count, within)))
     ∙ by (nat_eq at.0 client.0) refl
@@ -168,6 +163,21 @@ packets-all server view keeps m [] client can between within = sym (append-nil (
 packets-all server view keeps m (act ∷ acts) client can between within =
     packets-all server view keeps (after_act m act) acts client (All-tail CanBeDone act acts can) (act-between server view keeps m act between) within
     ∙ packets-one server view m act client (messages_to client.0 acts) (All-head CanBeDone act acts can) between within
+
+-- and go out
+act-out : (server : ServerId) (view : View) (m : Mail) (act : Act) → CanBeDone act → AreBetween server view m → AllGoOut server view m → AllGoOut server view (after_act m act)
+act-out server view m (Tells at message) can between out =
+    each-append (GoesOut server view) m.sent _ out (sent-each (GoesOut server view) (session_at m at) (message_bytes message) (made-out server at view (session_at m at) can.0 (between.each at can.0)))
+act-out server view m (Commits commit) can between out = out
+act-out server view m Drops can between out = out
+
+acts-out : (server : ServerId) (view : View) → KeepsBetween server view → (m : Mail) (acts : List Act) → All CanBeDone acts → AreBetween server view m → AllGoOut server view m → AllGoOut server view (after_acts m acts)
+acts-out server view keeps m [] can between out = out
+acts-out server view keeps m (act ∷ acts) can between out =
+    acts-out server view keeps (after_act m act) acts (All-tail CanBeDone act acts can) (act-between server view keeps m act between) (act-out server view m act (All-head CanBeDone act acts can) between out)
+
+pub acts-go-out : (server : ServerId) (view : View) → KeepsBetween server view → (m new : Mail) (acts : List Act) → new ≡ after_acts m acts → All CanBeDone acts → AreBetween server view m → AllGoOut server view m → AllGoOut server view new
+acts-go-out server view keeps m new acts is can between out = subst (AllGoOut server view) (sym is) (acts-out server view keeps m acts can between out)
 
 -- all of it, for what the acts leave
 pub acts-keep : (server : ServerId) (view : View) → KeepsBetween server view → (m new : Mail) (acts : List Act) → new ≡ after_acts m acts → AreBetween server view m → AreBetween server view new

@@ -1,7 +1,10 @@
 -- What a server hears of its clients in a step, and what the step sends to each.
-use Rattle.std.specs.Prelude.{◌<◌, ◌+◌, ◌^◌, ◌&&◌, ◌∷◌, [], ℕ, Bool, false, not, nat_eq, nat_lt, if◌then◌else◌, List, Option, Some, None, Result, Ok, Err, option_to_list, map, filter}
+use Rattle.std.specs.Prelude.{◌≡◌, ◌<◌, ◌+◌, ◌^◌, ◌&&◌, ◌∷◌, [], ℕ, Bool, false, not, nat_eq, nat_lt, if◌then◌else◌, List, Option, Some, None, Result, Ok, Err, option_to_list, map, filter}
 use Rattle.cal_base.specs.Limits.{clients}
 use Rattle.cal_base.specs.declared.identity.ClientId.{ClientId}
+use Rattle.cal_base.specs.declared.identity.NodeId.TheVariants.{Client, Server}
+use Rattle.cal_base.specs.declared.identity.ServerId.{ServerId}
+use Rattle.cal_base.specs.declared.identity.View.{View}
 use Rattle.message.specs.Bodies.{message_of}
 use Rattle.message.specs.Spelling.{message_bytes}
 use Rattle.message.specs.declared.message.Message.{Message}
@@ -11,7 +14,7 @@ use Rattle.client_sessions.specs.Mail.{Mail, after_acknowledging, after_hearing,
 use Rattle.volume.specs.Volume.{Volume}
 use Rattle.volume_edit.specs.Edit.{slot_at}
 use Rattle.cluster_law.specs.Lanes.{Down}
-use Rattle.cluster_law.specs.Lists.{is_empty, only_if}
+use Rattle.cluster_law.specs.Lists.{Each, is_empty, only_if}
 use Rattle.cluster_law.specs.Sessions.{told_in}
 use Rattle.server_draft.specs.Acts.{acts_of}
 use Rattle.server_draft.specs.declared.act.Act.{Act}
@@ -21,6 +24,18 @@ use Rattle.server_mail.specs.declared.hearing.FromClient.{FromClient}
 -- the packets that the step sends to a client, in order
 abbrev pub packets_to : ClientId → Mail → List Packet
 packets_to client m = filter (is_to client) m.sent
+
+-- a packet goes from the server of a view to a client of the cluster
+pub record GoesOut (server : ServerId) (view : View) (p : Packet) : Type 0 where
+  pub client : ClientId
+  pub from : p.from ≡ Server server
+  pub to : p.to ≡ Client client
+  pub of_view : p.view ≡ view
+  pub within : client.0 < clients
+
+-- all packets of the step do
+abbrev pub AllGoOut : ServerId → View → Mail → Type 0
+AllGoOut server view m = Each (GoesOut server view) m.sent
 
 -- a client's purge is marked in the volume
 abbrev pub is_purged : Volume → ClientId → Bool

@@ -4,7 +4,7 @@ ghost use Rattle.cal_base.specs.declared.identity.ClientId.{ClientId};
 ghost use Rattle.cal_base.specs.declared.identity.ServerId.{ServerId};
 ghost use Rattle.cal_base.specs.declared.identity.View.{View};
 ghost use Rattle.client_sessions.specs.Mail.{AreBetween};
-ghost use Rattle.server_mail.specs.Step.{after_answering, bare_to, packets_to};
+ghost use Rattle.server_mail.specs.Step.{AllGoOut, after_answering, bare_to, packets_to};
 
 use cal_base::{ClientId, Oom};
 use client_sessions::ClientSessions;
@@ -18,6 +18,7 @@ pub fn acknowledge(mail: &mut ClientSessions, answers: Option<ClientId>) -> Resu
     ensures sent { OnOk result ((server : ServerId) (view : View) (client : ClientId) → AreBetween server view mail.old → client.0 < clients
         → packets_to client mail.new ≡ packets_to client mail.old ++ bare_to client mail.old answers) }
     ensures between { OnOk result ((server : ServerId) (view : View) → AreBetween server view mail.old → AreBetween server view mail.new) }
+    ensures out { OnOk result ((server : ServerId) (view : View) → AreBetween server view mail.old → AllGoOut server view mail.old → AllGoOut server view mail.new) }
 {
     match answers {
         None => Ok(()),

@@ -9,7 +9,7 @@ ghost use Rattle.lane_facts.specs.Speaking.{opened_by};
 ghost use Rattle.message.specs.Bodies.{message_of};
 ghost use Rattle.message.specs.Range.{IsMessage};
 ghost use Rattle.session.specs.Session.{body_of};
-ghost use Rattle.server_mail.specs.Step.{after_coming, brought, from_client, heard_from, is_purged, message_if, owed, packets_to, part_of, spelled};
+ghost use Rattle.server_mail.specs.Step.{AllGoOut, after_coming, brought, from_client, heard_from, is_purged, message_if, owed, packets_to, part_of, spelled};
 
 use cal_base::{ClientId, Oom};
 use client_sessions::ClientSessions;
@@ -21,7 +21,9 @@ use std::alloc::Global;
 /// A message of a client.
 #[derive(Drop)]
 pub struct FromClient {
+    /// Who sent it: a client of the cluster.
     pub client: ClientId,
+    /// What it says.
     pub message: Message,
 }
 
@@ -36,7 +38,8 @@ pub struct Heard {
 
 /// Hears a packet in the session of its client, unless the client's purge is marked in the volume. A packet of no
 /// session does nothing. The message is taken, if it is the next one; bytes that are no message are taken and come
-/// to nothing. A client whose packet with a number is heard is owed an acknowledgement.
+/// to nothing. A client whose packet with a number is heard is owed an acknowledgement. Each session has made fewer
+/// than 2^60 steps, and makes at most one more.
 pub fn hear(
     alloc: Global,
     mail: &mut ClientSessions,
@@ -50,6 +53,7 @@ pub fn hear(
     ensures answers { IfOk result (λ heard. heard.answers ≡ owed packet.now (heard_from mail.old image.now packet.now)) }
     ensures bound { IfOk result (λ heard. IfSome heard.answers (λ client. client.0 < clients)) }
     ensures between { OnOk result ((server : ServerId) (view : View) → AreBetween server view mail.old → AreBetween server view mail.new) }
+    ensures out { OnOk result ((server : ServerId) (view : View) → AreBetween server view mail.old → AllGoOut server view mail.old → AllGoOut server view mail.new) }
     ensures session { OnOk result ((server : ServerId) (view : View) (client : ClientId) → AreBetween server view mail.old → client.0 < clients
         → session_at mail.new client ≡ hearing (session_at mail.old client) (part_of client packet.now (heard_from mail.old image.now packet.now))) }
     ensures steps { OnOk result ((client : ClientId) → (session_at mail.new client).steps ≤ (session_at mail.old client).steps + 1) }

@@ -4,7 +4,7 @@ ghost use Rattle.cal_base.specs.declared.identity.ClientId.{ClientId};
 ghost use Rattle.cal_base.specs.declared.identity.ServerId.{ServerId};
 ghost use Rattle.cal_base.specs.declared.identity.View.{View};
 ghost use Rattle.client_sessions.specs.Mail.{AreBetween, session_at};
-ghost use Rattle.server_mail.specs.Step.{after_tick_to, packets_to, resent};
+ghost use Rattle.server_mail.specs.Step.{AllGoOut, after_tick_to, packets_to, resent};
 
 use crate::hearing::is_purged;
 use cal_base::{CLIENTS, ClientId, Oom};
@@ -18,6 +18,7 @@ pub fn resend_all(mail: &mut ClientSessions, image: &Image) -> Result<(), Oom>
     ensures sent { OnOk result ((server : ServerId) (view : View) (client : ClientId) → AreBetween server view mail.old → client.0 < clients
         → packets_to client mail.new ≡ packets_to client mail.old ++ resent image.now mail.old client) }
     ensures between { OnOk result ((server : ServerId) (view : View) → AreBetween server view mail.old → AreBetween server view mail.new) }
+    ensures out { OnOk result ((server : ServerId) (view : View) → AreBetween server view mail.old → AllGoOut server view mail.old → AllGoOut server view mail.new) }
 {
     for number in 0..CLIENTS {
         resend_to(mail, image, ClientId(number))?;

@@ -7,7 +7,7 @@ ghost use Rattle.client_sessions.specs.Mail.{AreBetween, session_at};
 ghost use Rattle.cluster_law.specs.Ends.{making};
 ghost use Rattle.lane_facts.specs.Speaking.{packets_with};
 ghost use Rattle.server_draft.specs.Acts.{CanBeDone};
-ghost use Rattle.server_mail.specs.Step.{HasRoom, after_act, bodies_to, packets_to, told_to};
+ghost use Rattle.server_mail.specs.Step.{AllGoOut, HasRoom, after_act, bodies_to, packets_to, told_to};
 
 use cal_base::Oom;
 use client_sessions::{ClientSessions, sessions_stay_between};
@@ -25,6 +25,7 @@ pub fn send_acts(mail: &mut ClientSessions, acts: &[Act]) -> Result<(), Oom>
     ensures sent { OnOk result ((server : ServerId) (view : View) (client : ClientId) → AreBetween server view mail.old → client.0 < clients
         → packets_to client mail.new ≡ packets_to client mail.old ++ packets_with (session_at mail.old client) (bodies_to view.0 client acts.now)) }
     ensures between { OnOk result ((server : ServerId) (view : View) → AreBetween server view mail.old → AreBetween server view mail.new) }
+    ensures out { OnOk result ((server : ServerId) (view : View) → AreBetween server view mail.old → AllGoOut server view mail.old → AllGoOut server view mail.new) }
 {
     // this law tells that the sessions stay those of the server
     sessions_stay_between();

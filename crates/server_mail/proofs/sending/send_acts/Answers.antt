@@ -1,5 +1,5 @@
 use Rattle.std.proofs.Common.{◌+◌, drop, arith, ◌∙◌}
-use Rattle.server_mail.proofs.Telling.{act-next, acts-done, acts-keep, acts-make, acts-more, acts-send, acts-step, room-first, room-rest}
+use Rattle.server_mail.proofs.Telling.{act-next, acts-done, acts-go-out, acts-keep, acts-make, acts-more, acts-send, acts-step, room-first, room-rest}
 use Rattle.server_mail.proofs.sending.send_acts.Goals as goal
 
 pub send-requires-clause-steps : goal.send-requires-clause-steps
@@ -36,3 +36,9 @@ returns-clause-between c = λ server view between.
     let past = c.loop-act-test.false in
     acts-keep server view (c.sessions_stay_between.ensures.sending server view) c.args.mail.now c.loop-act.mail c.args.acts.now
     (acts-done c.args.mail.now c.loop-act.mail c.args.acts.now c.loop-act.act-index (omega (arith, past)) c.loop-act.invariant.0) between
+
+pub returns-clause-out : goal.returns-clause-out
+returns-clause-out c = λ server view.
+    let past = c.loop-act-test.false in
+    acts-go-out server view (c.sessions_stay_between.ensures.sending server view) c.args.mail.now c.loop-act.mail c.args.acts.now
+    (acts-done c.args.mail.now c.loop-act.mail c.args.acts.now c.loop-act.act-index (omega (arith, past)) c.loop-act.invariant.0) c.requires.acts

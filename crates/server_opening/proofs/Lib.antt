@@ -1,0 +1,4 @@
+mod Begun
+mod Owing
+mod Paying
+mod Used

@@ -1,0 +1,31 @@
+use Rattle.std.proofs.Common.{subst, sym, refl, ◌∙◌}
+use Rattle.cluster_law.specs.Asking.{is_admit, is_wait}
+use Rattle.rebuild.specs.Collecting.{missing_of}
+use Rattle.server_draft.specs.Acts.{acts_of}
+use Rattle.server_opening.proofs.Paying.{nobody-none, nobody-waits, told-none}
+use Rattle.server_opening.specs.Owed.{IsOwedFor, IsPaid}
+use Rattle.server_opening.specs.declared.hearing.Owed.{Owed}
+use Rattle.server_opening.proofs.opening.pay.Goals as goal
+
+pub returns-in-Nothing-clause-nobody : goal.returns-in-Nothing-clause-nobody
+returns-in-Nothing-clause-nobody c = λ view e. nobody-none view c.args.draft.now.acts e
+
+pub returns-in_ok-answer_wait-in-Wait-clause-follows : goal.returns-in_ok-answer_wait-in-Wait-clause-follows
+returns-in_ok-answer_wait-in-Wait-clause-follows c = λ view o start follows e owed.
+    c.in_ok-answer_wait-in-Wait.ensures.follows view o start follows (subst (λ (w : Owed). IsOwedFor o.took c.args.client w) c.in-Wait.is owed) (told-none view c.args.client.0 is_wait c.args.draft.now.acts e)
+
+pub returns-in_ok-answer_wait-in-Wait-clause-nobody : goal.returns-in_ok-answer_wait-in-Wait-clause-nobody
+returns-in_ok-answer_wait-in-Wait-clause-nobody c = λ view e.
+    nobody-waits view c.args.draft.now c.answer_wait.new.draft c.args.client c.in-Wait.number (missing_of c.args.draft.now.desk.collecting) c.in_ok-answer_wait-in-Wait.ensures.state e
+
+pub returns-in_ok-take_flush-in-Flush-clause-follows : goal.returns-in_ok-take_flush-in-Flush-clause-follows
+returns-in_ok-take_flush-in-Flush-clause-follows c = λ view o start follows e owed.
+    c.in_ok-take_flush-in-Flush.ensures.follows view o start follows e (subst (λ (w : Owed). IsOwedFor o.took c.args.client w) c.in-Flush.is owed)
+
+pub returns-in_ok-take_flush-in-Flush-clause-paid : goal.returns-in_ok-take_flush-in-Flush-clause-paid
+returns-in_ok-take_flush-in-Flush-clause-paid c = λ view o start follows e.
+    subst (λ (w : Owed). IsPaid c.args.draft.now.desk start c.args.client w (acts_of view c.take_flush.new.draft.acts)) (sym c.in-Flush.is) (λ used. c.in_ok-take_flush-in-Flush.ensures.told view o start follows e used)
+
+pub returns-in_ok-take_flush-in-Flush-clause-nobody : goal.returns-in_ok-take_flush-in-Flush-clause-nobody
+returns-in_ok-take_flush-in-Flush-clause-nobody c = λ view e client.
+    c.in_ok-take_flush-in-Flush.ensures.acts.others view client is_admit refl ∙ told-none view client is_admit c.args.draft.now.acts e

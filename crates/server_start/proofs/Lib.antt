@@ -1,0 +1,10 @@
+mod Formatting
+mod Running
+mod Replaying
+mod Mounting
+mod Fencing
+mod Mailing
+mod Present
+mod Turning
+mod Serving
+mod Single

@@ -1,0 +1,14 @@
+pub mod Asked
+pub mod Changes
+pub mod Committed
+pub mod Contents
+pub mod Firsts
+pub mod Gaps
+pub mod Giving
+pub mod Going
+pub mod Heads
+pub mod Needs
+pub mod Opened
+pub mod Rested
+pub mod Touches
+pub mod Wanted

@@ -1,4 +1,4 @@
-.PHONY: demo build test edits
+.PHONY: demo build test edits pictures
 
 # Shows a run of the first script: script, then text. It runs the program without proving it, which takes under
 # a minute on a fresh machine; what the prover says goes to build/demo.log.
@@ -20,6 +20,10 @@ build:
 # The merge gate.
 test:
 	bash .ci/run
+
+# Makes the picture of each text in docs/pictures anew, next to it.
+pictures:
+	@for text in docs/pictures/*.text; do tools/ladder "$$text" > "$${text%.text}.svg" || exit 1; done
 
 # The wrong bodies of the dearest crates, which the gate leaves out: the check has to refuse each.
 edits:

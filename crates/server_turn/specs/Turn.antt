@@ -1,0 +1,33 @@
+-- A step as a server has planned it.
+use Rattle.std.specs.Prelude.{◌≡◌, ◌≢◌, ℕ, List, IsTrue}
+use Rattle.cluster_law.specs.DiskRules.{would_read}
+use Rattle.cluster_law.specs.Granting.{head}
+use Rattle.cluster_law.specs.ServerRules.{ActsWell, EachAct, EndsWell, Occasion}
+use Rattle.cluster_law.specs.ServerState.{ServerState, after_acts}
+use Rattle.server_draft.specs.Acts.{acts_of}
+use Rattle.server_draft.specs.Draft.{Follows}
+use Rattle.server_draft.specs.declared.act.Act.{Act}
+use Rattle.server_line.specs.Served.{ReadNothing}
+use Rattle.server_line.specs.declared.stopping.ServeError.{ServeError}
+use Rattle.server_line.specs.declared.stopping.ServeError.TheVariants.{Oom, Refused}
+use Rattle.server_turn.specs.declared.planning.Planned.{Planned}
+use Rattle.shared_disk.specs.Disk.{Disk}
+use Rattle.volume_names.specs.Named.{AreNamed}
+
+-- a step is planned to its end, from a server of the law: the draft follows, all that is owed at the end is done,
+-- and under another key nothing was read
+pub record IsPlanned (view : ℕ) (o : Occasion) (start : ServerState) (disk : Disk) (planned : Planned) : Type 0 where
+  pub follows : Follows view o start planned.draft
+  pub ends : EndsWell o start (acts_of view planned.draft.acts) planned.head
+  pub named : AreNamed planned.draft.image
+  pub unread : disk.key ≢ view → ReadNothing start (acts_of view planned.draft.acts)
+
+-- a step was planned up to a block that can't be read: its acts are as the law asks, and the head would read one
+pub record IsRefused (view : ℕ) (o : Occasion) (start : ServerState) : Type 0 where
+  pub acts : List Act
+  pub well : EachAct start (ActsWell o start) (acts_of view acts)
+  pub reads : IsTrue (would_read (after_acts start (acts_of view acts)) (head (after_acts start (acts_of view acts))))
+
+abbrev pub MayBeRefused : ServeError → ℕ → Occasion → ServerState → Type 0
+MayBeRefused Oom view o start = Unit {0}
+MayBeRefused (Refused why) view o start = IsRefused view o start

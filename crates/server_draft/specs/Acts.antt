@@ -1,5 +1,5 @@
 -- The acts of a step, as they are kept in order, and as the law names them.
-use Rattle.std.specs.Prelude.{◌∷◌, ◌++◌, [], ◌<◌, ℕ, List, All, map}
+use Rattle.std.specs.Prelude.{◌∷◌, ◌++◌, [], ◌+◌, ◌<◌, ℕ, nat_eq, if◌then◌else◌, List, All, map}
 use Rattle.cal_base.specs.Limits as limits
 use Rattle.cal_base.specs.declared.identity.ClientId.{ClientId}
 use Rattle.message.specs.Range.{IsMessage}
@@ -53,9 +53,13 @@ places (act ∷ acts) = places_of act ++ places acts
 abbrev pub asked_back : ClientId × Revoke → Act
 asked_back sent = Tells sent.0 (AsksBack sent.1)
 
--- the blocks that the first act lays, where it is a commit
-abbrev pub laid : List Act → List (ℕ × List ℕ)
-laid [] = []
-laid (Tells client message ∷ acts) = []
-laid (Commits commit ∷ acts) = commit.lays
-laid (Drops ∷ acts) = []
+-- how many messages an act makes for a client
+abbrev pub tells : ℕ → Act → ℕ
+tells client (Tells to message) = if nat_eq to.0 client then 1 else 0
+tells client (Commits commit) = 0
+tells client Drops = 0
+
+-- how many messages some acts make for a client
+unfoldable pub told_to : ℕ → List Act → ℕ
+told_to client [] = 0
+told_to client (act ∷ acts) = tells client act + told_to client acts

@@ -1,14 +1,18 @@
 -- A draft that follows the law's server.
-use Rattle.std.specs.Prelude.{◌≡◌, ◌++◌, ◌<◌, ◌≤◌, ℕ, List}
+use Rattle.std.specs.Prelude.{◌≡◌, ◌++◌, ◌+◌, ◌<◌, ◌≤◌, ℕ, Bool, false, List, length}
 use Rattle.cal_base.specs.Limits as limits
+use Rattle.message.specs.declared.message.Message.{Message}
 use Rattle.token_kind.specs.declared.blocker.Blocker.{Blocker}
 use Rattle.volume.specs.Stands.{AreBlocksKept}
 use Rattle.volume_plan.specs.Plans.{free_count}
+use Rattle.cluster_law.specs.Asking.{was_told}
 use Rattle.cluster_law.specs.Blocking.{reserved}
+use Rattle.cluster_law.specs.Lists.{Each}
+use Rattle.cluster_law.specs.Removing.{has_removed}
 use Rattle.cluster_law.specs.ServerRules.{ActsWell, EachAct, Occasion}
 use Rattle.cluster_law.specs.ServerState.{ServerState, after_acts}
 use Rattle.server_desk.specs.Desk.{IsLike}
-use Rattle.server_draft.specs.Acts.{acts_of}
+use Rattle.server_draft.specs.Acts.{acts_of, told_to}
 use Rattle.server_draft.specs.declared.act.Act.{Act}
 use Rattle.server_draft.specs.declared.draft.Draft.{Draft}
 
@@ -46,3 +50,13 @@ pub record Grows (old new : List Act) : Type 0 where
 pub record IsWithin (blocker : Blocker) : Type 0 where
   pub client : blocker.client.0 < limits.clients
   pub ino : blocker.ino.0 < limits.inodes
+
+-- what a client is told, and the requests that wait: each of them may be answered to it
+abbrev pub told_or_waiting : ℕ → Draft → ℕ
+told_or_waiting client draft = told_to client draft.acts + length draft.desk.requests
+
+-- acts were put to others: they tell nothing but such messages, and remove nothing
+pub record TellsOnly (messages : List Message) (old new : List Act) : Type 0 where
+  pub grows : Grows old new
+  pub others : (view client : ℕ) (test : Message → Bool) → Each (λ message. test message ≡ false) messages → was_told client test (acts_of view new) ≡ was_told client test (acts_of view old)
+  pub removed : (view : ℕ) → has_removed (acts_of view new) ≡ has_removed (acts_of view old)

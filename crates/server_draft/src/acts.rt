@@ -1,11 +1,11 @@
 ghost use Rattle.std.specs.Prelude.{◌≡◌, ◌<◌, ◌∷◌, [], ◌++◌, All, OnErr, OnOk};
 ghost use Rattle.cal_base.specs.Limits as limits;
 ghost use Rattle.message.specs.Range.{IsMessage};
-ghost use Rattle.server_draft.specs.Acts.{CanBeDone, laid};
+ghost use Rattle.server_draft.specs.Acts.{CanBeDone};
 ghost use Rattle.server_draft.specs.declared.act.Act.TheVariants.{Tells, Commits, Drops};
 
 use crate::act::{Act, Commit};
-use cal_base::{ClientId, Items, Oom, Sector};
+use cal_base::{ClientId, Items, Oom};
 use message::Message;
 use std::alloc::Global;
 use std::marker::Model;
@@ -84,15 +84,5 @@ impl Acts {
         ensures each { All CanBeDone self }
     {
         self.list.into_vec()
-    }
-
-    /// The blocks that the first act lays, where it is a commit: those of the step's own flush.
-    pub fn laid(&self) -> &[(u32, Sector)]
-        ensures { result.now ≡ laid self.now }
-    {
-        match self.list.as_slice().first() {
-            Some(Act::Commits(commit)) => commit.lays.as_slice(),
-            _ => &[],
-        }
     }
 }

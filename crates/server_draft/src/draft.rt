@@ -1,4 +1,4 @@
-ghost use Rattle.std.specs.Prelude.{◌≡◌, ◌<◌, ◌∷◌, [], ◌++◌, ℕ, Bool, All, IfOk, IsTrue, OnOk, drop, map};
+ghost use Rattle.std.specs.Prelude.{◌≡◌, ◌<◌, ◌≤◌, ◌+◌, ◌∷◌, [], ◌++◌, ℕ, Bool, All, IfOk, IsTrue, OnOk, drop, map};
 ghost use Rattle.cal_base.specs.Limits as limits;
 ghost use Rattle.message.specs.Range.{IsMessage};
 ghost use Rattle.message.specs.declared.message.Message.{Message};
@@ -13,7 +13,7 @@ ghost use Rattle.cluster_law.specs.ServerRules.{ActsWell, EachAct, Occasion};
 ghost use Rattle.cluster_law.specs.ServerState.{ServerState, after_act, doing, telling};
 ghost use Rattle.server_book.specs.Alike.{revoking};
 ghost use Rattle.server_desk.specs.Desk.{IsLike};
-ghost use Rattle.server_draft.specs.Acts.{CanBeDone, act_of, acts_of, asked_back, deed_of, places, places_of};
+ghost use Rattle.server_draft.specs.Acts.{CanBeDone, act_of, acts_of, asked_back, deed_of, places, places_of, tells, told_to};
 ghost use Rattle.server_draft.specs.Draft.{Begins, Follows, HasSpace, IsWithin, reached};
 ghost use Rattle.server_draft.specs.declared.act.Act.TheVariants.{Tells, Commits, Drops};
 
@@ -63,6 +63,7 @@ impl Draft {
             → ActsWell o start (reached view start before) (acts_of view before.acts) (act_of view (Tells client message)) → Follows view o start self.new) }
         ensures acts { OnOk result ((view : ℕ) → acts_of view self.new.acts ≡ act_of view (Tells client message) ∷ acts_of view self.old.acts) }
         ensures told { OnOk result ((view : ℕ) (test : Message → Bool) → IsTrue (test message) → IsTrue (was_told client.0 test (acts_of view self.new.acts))) }
+        ensures count { OnOk result ((to : ℕ) → told_to to self.new.acts ≡ told_to to self.old.acts + tells to (Tells client message)) }
     {
         self.acts.tell(client, message)?;
         Ok(())
@@ -72,6 +73,7 @@ impl Draft {
     pub fn drop_head(&mut self) -> Result<(), Oom>
         ensures state { OnOk result (self.new ≡ record self.old { desk = record self.old.desk { requests = drop 1 self.old.desk.requests }; acts = self.old.acts ++ Drops ∷ [] }) }
         ensures acts { OnOk result ((view : ℕ) → acts_of view self.new.acts ≡ act_of view Drops ∷ acts_of view self.old.acts) }
+        ensures count { OnOk result ((to : ℕ) → told_to to self.new.acts ≡ told_to to self.old.acts) }
         ensures follows { OnOk result ((view : ℕ) (o : Occasion) (start : ServerState) → Follows view o start self.old
             → ActsWell o start (reached view start self.old) (acts_of view self.old.acts) (act_of view Drops) → Follows view o start self.new) }
     {
@@ -86,6 +88,7 @@ impl Draft {
         requires lays { All (λ lay. lay.0 < limits.sectors) commit.lays }
         ensures state { OnOk result (self.new ≡ record self.old { image = edited self.old.image commit.edit; acts = self.old.acts ++ Commits commit ∷ [] }) }
         ensures acts { OnOk result ((view : ℕ) → acts_of view self.new.acts ≡ act_of view (Commits commit) ∷ acts_of view self.old.acts) }
+        ensures count { OnOk result ((to : ℕ) → told_to to self.new.acts ≡ told_to to self.old.acts) }
         ensures follows { OnOk result ((view : ℕ) (o : Occasion) (start : ServerState) (before : Draft) → Follows view o start before → self.old.image ≡ before.image → self.old.acts ≡ before.acts
             → TakesFree before.image commit.edit → IsLike self.old.desk (doing (reached view start before) (deed_of commit.deed)) → HasSpace (after_act (reached view start before) (act_of view (Commits commit)))
             → ActsWell o start (reached view start before) (acts_of view before.acts) (act_of view (Commits commit)) → Follows view o start self.new) }
@@ -104,6 +107,7 @@ impl Draft {
         ensures image { OnOk result (self.new.image ≡ self.old.image) }
         ensures grows { OnOk result (self.new.acts ≡ self.old.acts ++ map asked_back (revokes_of self.old.desk.asked blockers.now)) }
         ensures acts { OnOk result ((view : ℕ) → acts_of view self.new.acts ≡ revoking view (revokes_of self.old.desk.asked blockers.now) (acts_of view self.old.acts)) }
+        ensures few { OnOk result ((to : ℕ) → told_to to self.new.acts ≤ told_to to self.old.acts + limits.inodes) }
         ensures follows { OnOk result ((view : ℕ) (o : Occasion) (start : ServerState) → Follows view o start self.old
             → EachAct start (ActsWell o start) (revoking view (revokes_of self.old.desk.asked blockers.now) (acts_of view self.old.acts)) → Follows view o start self.new) }
     {

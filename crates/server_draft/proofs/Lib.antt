@@ -1,4 +1,5 @@
 mod Acting
 mod Asking
+mod Counting
 mod Following
 mod Writing

@@ -8,6 +8,9 @@ use Rattle.server_draft.specs.Acts.{asked_back}
 use Rattle.server_draft.proofs.Acting.{acts-asked}
 use Rattle.server_draft.proofs.Asking.{all-done}
 use Rattle.server_draft.proofs.Following.{asks}
+use Rattle.revocation.proofs.Order.{sent_in_order}
+use Rattle.revocation.specs.Order.{AreInOrder}
+use Rattle.server_draft.proofs.Counting.{asked-few}
 use Rattle.server_draft.proofs.draft.Draft.revoke.Goals as goal
 
 pub ask_all_back-requires : goal.ask_all_back-requires
@@ -32,3 +35,11 @@ returns-clause-follows c =
     asks c.args.self.now (record { desk = c.revoke.new.self; image = c.args.self.now.image; acts = c.ask_all_back.new.acts }) (revokes_of c.args.self.now.desk.asked c.args.blockers.now) refl
     (c.in_ok-ask_all_back.ensures ∙ ap (λ (revokes : List (ClientId × Revoke)). c.args.self.now.acts ++ map asked_back revokes) c.in_ok-revokes.ensures.revokes)
     c.in_ok-revokes.ensures.like
+
+pub returns-clause-few : goal.returns-clause-few
+returns-clause-few c = λ to. asked-few c.args.blockers.now to c.args.self.now.acts c.ask_all_back.new.acts c.in_ok-revokes.revokes
+    (subst (λ (revokes : List (ClientId × Revoke)). AreInOrder c.args.blockers.now revokes) (sym c.in_ok-revokes.ensures.revokes) (sent_in_order c.args.self.now.desk.asked c.args.blockers.now))
+    (subst (λ (revokes : List (ClientId × Revoke)). All (IsOfBlockers c.args.blockers.now) revokes) (sym c.in_ok-revokes.ensures.revokes) (revokes_are_of_blockers c.args.self.now.desk.asked c.args.blockers.now))
+    c.requires.within
+    (c.in_ok-revokes.ensures.formed c.requires.askable)
+    c.in_ok-ask_all_back.ensures

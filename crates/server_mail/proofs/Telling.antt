@@ -17,10 +17,10 @@ use Rattle.cluster_law.specs.Lanes as law
 use Rattle.cluster_law.specs.Lists.{onto}
 use Rattle.cluster_law.specs.Sessions.{told_in}
 use Rattle.lane_facts.specs.Speaking.{packets_with}
-use Rattle.server_draft.specs.Acts.{CanBeDone, act_of, acts_of}
+use Rattle.server_draft.specs.Acts.{CanBeDone, act_of, acts_of, tells, told_to}
 use Rattle.server_draft.specs.declared.act.Act.{Act}
 use Rattle.server_draft.specs.declared.act.Act.TheVariants.{Tells, Commits, Drops}
-use Rattle.server_mail.specs.Step.{AllGoOut, GoesOut, HasRoom, after_act, bodies_to, packets_to, tells, told_to}
+use Rattle.server_mail.specs.Step.{AllGoOut, GoesOut, HasRoom, after_act, bodies_to, packets_to}
 use Rattle.server_mail.proofs.Addressed.{at-set, each-append, lane-test, made-out, put-to, same-client, same-number, sent-each, set-or}
 
 -- the messages of some acts are sent, one after the other

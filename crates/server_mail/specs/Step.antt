@@ -16,7 +16,7 @@ use Rattle.volume_edit.specs.Edit.{slot_at}
 use Rattle.cluster_law.specs.Lanes.{Down}
 use Rattle.cluster_law.specs.Lists.{Each, is_empty, only_if}
 use Rattle.cluster_law.specs.Sessions.{told_in}
-use Rattle.server_draft.specs.Acts.{acts_of}
+use Rattle.server_draft.specs.Acts.{acts_of, told_to}
 use Rattle.server_draft.specs.declared.act.Act.{Act}
 use Rattle.server_draft.specs.declared.act.Act.TheVariants.{Tells, Commits, Drops}
 use Rattle.server_mail.specs.declared.hearing.FromClient.{FromClient}
@@ -95,17 +95,6 @@ after_act m Drops = m
 -- the bodies of the messages that some acts make for a client, in order
 abbrev pub bodies_to : ℕ → ClientId → List Act → List (List ℕ)
 bodies_to view client acts = map message_bytes (told_in (record { client = client.0; view = view; way = Down }) (acts_of view acts))
-
--- how many messages an act makes for a client
-abbrev pub tells : ℕ → Act → ℕ
-tells client (Tells to message) = if nat_eq to.0 client then 1 else 0
-tells client (Commits commit) = 0
-tells client Drops = 0
-
--- how many messages some acts make for a client
-unfoldable pub told_to : ℕ → List Act → ℕ
-told_to client [] = 0
-told_to client (act ∷ acts) = tells client act + told_to client acts
 
 -- each session takes the messages of these acts
 abbrev pub HasRoom : Mail → List Act → Type 0

@@ -8,8 +8,9 @@ ghost use Rattle.cluster_law.specs.Delivery.{has_number};
 ghost use Rattle.cluster_law.specs.Lanes.{Down};
 ghost use Rattle.cluster_law.specs.Sessions.{goes_on};
 ghost use Rattle.session.specs.declared.packet.Packet.{Packet};
+ghost use Rattle.server_draft.specs.Acts.{told_to};
 ghost use Rattle.server_draft.specs.declared.act.Act.{Act};
-ghost use Rattle.server_mail.specs.Step.{AllGoOut, bodies_to, is_owed, owed, packets_to, part_of, told_to};
+ghost use Rattle.server_mail.specs.Step.{AllGoOut, bodies_to, is_owed, owed, packets_to, part_of};
 
 /// As many messages are made for a client as are counted, and no more than there are acts.
 pub fn no_client_is_told_more_than_is_done()

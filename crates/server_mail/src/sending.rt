@@ -6,8 +6,8 @@ ghost use Rattle.cal_base.specs.declared.identity.View.{View};
 ghost use Rattle.client_sessions.specs.Mail.{AreBetween, session_at};
 ghost use Rattle.cluster_law.specs.Ends.{making};
 ghost use Rattle.lane_facts.specs.Speaking.{packets_with};
-ghost use Rattle.server_draft.specs.Acts.{CanBeDone};
-ghost use Rattle.server_mail.specs.Step.{AllGoOut, HasRoom, after_act, bodies_to, packets_to, told_to};
+ghost use Rattle.server_draft.specs.Acts.{CanBeDone, told_to};
+ghost use Rattle.server_mail.specs.Step.{AllGoOut, HasRoom, after_act, bodies_to, packets_to};
 
 use cal_base::Oom;
 use client_sessions::{ClientSessions, sessions_stay_between};

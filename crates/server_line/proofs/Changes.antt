@@ -1,5 +1,5 @@
 -- A change at the head of the line: answered again, dropped, carried out, or blocked.
-use Rattle.std.proofs.Common.{◌≡◌, ◌==◌, ◌≤◌, ◌<◌, ◌++◌, ◌∷◌, [], ℕ, nat_le, nat_lt, List, Bool, true, false, Option, Some, None, IsTrue, drop, map, if◌then◌else◌, refl, sym, ap, subst, ◌∙◌, arith, rules}
+use Rattle.std.proofs.Common.{◌≡◌, ◌==◌, ◌≤◌, ◌<◌, ◌+◌, ◌++◌, ◌∷◌, [], ℕ, nat_le, nat_lt, List, Bool, true, false, Option, Some, None, IsTrue, drop, map, if◌then◌else◌, refl, sym, ap, subst, ◌∙◌, arith, rules}
 use Rattle.std.specs.Prelude.{◌↔◌, is_none}
 use Rattle.std.specs.List.{All, Contains}
 use Rattle.std.proofs.lemmas.List.{append-nil}
@@ -42,16 +42,17 @@ use Rattle.cluster_law.specs.ServerState.{ServerState, after_act, as_request, is
 use Rattle.cluster_law.specs.Tokens.{class_numbered, touch_of}
 use Rattle.server_book.proofs.Deciding.{reserve}
 use Rattle.server_desk.specs.Desk.{DeskValue, IsLike}
-use Rattle.server_draft.specs.Acts.{act_of, acts_of}
+use Rattle.server_draft.specs.Acts.{act_of, acts_of, tells, told_to}
 use Rattle.server_draft.specs.Draft.{Follows, HasSpace, IsWithin, reached}
 use Rattle.server_draft.specs.declared.act.Act.TheVariants.{Tells, Drops}
 use Rattle.server_draft.specs.declared.draft.Draft.{Draft}
 use Rattle.server_line.specs.Blocked.{AreBlockers, CanBeAsked}
 use Rattle.server_line.specs.Changed.{IsPlanned}
-use Rattle.server_line.specs.Known.{IsHead, known}
+use Rattle.server_line.specs.Known.{HasHead, IsHead, known}
 use Rattle.volume_names.specs.Named.{AreNamed}
 use Rattle.server_line.specs.Served.{IsAnswer, ReadNothing, Serves}
 use Rattle.server_line.specs.declared.resting.Blockers.{Blockers}
+use Rattle.server_line.proofs.Counting.{has-head, head-gone, one-more}
 use Rattle.server_line.proofs.Gaps.{touchers-within}
 use Rattle.server_line.proofs.Going.{alike-known, answer-quiet, answer-reads, answer-tells, keeps-one, well-reached}
 use Rattle.server_line.proofs.Opened.{opened-same}
@@ -77,10 +78,11 @@ pub answer-serves : (old new : Draft) (client : ClientId) (message : Message) (d
     → ((view : ℕ) (o : Occasion) (start : ServerState) (before : Draft) → Follows view o start before → old.image ≡ before.image → old.acts ≡ before.acts
     → IsLike desk (telling (reached view start before) client message) → HasSpace (telling (reached view start before) client message)
     → ActsWell o start (reached view start before) (acts_of view before.acts) (act_of view (Tells client message)) → Follows view o start new)
-    → IsAnswer message
+    → ((to : ℕ) → told_to to new.acts ≡ told_to to old.acts + tells to (Tells client message))
+    → HasHead old → IsAnswer message
     → ((view : ℕ) (o : Occasion) (start : ServerState) → Follows view o start old → ActsWell o start (known old (reached view start old).sectors) (acts_of view old.acts) (act_of view (Tells client message)))
     → Serves (λ start. Unit {0}) (Unit {0}) old new None
-answer-serves old new client message desk desk-is like is acts follows answers well = record {
+answer-serves old new client message desk desk-is like is acts follows count has answers well = record {
   goes = record {
     keeps = keeps-one old new (Tells client message) (ap (λ (d : Draft). d.acts) is) acts
         (ap (λ (d : Draft). record d.desk.collecting { table = old.desk.collecting.table }) is ∙ ap (λ (k : DeskValue). record k.collecting { table = old.desk.collecting.table }) desk-is)
@@ -95,19 +97,24 @@ answer-serves old new client message desk desk-is like is acts follows answers w
         (well-reached view o start old (act_of view (Tells client message)) f (well view o start f));
     unread = λ view o start sees other names f all. subst (λ (told : List lanes.Act). ReadNothing start told) (sym (acts view)) (all, answer-reads message answers (reached view start old) (record { client = client.0; view = view; way = lanes.Down }));
   };
-  gone = λ none. ap (λ (d : Draft). d.desk.requests) is ∙ ap (λ (k : DeskValue). k.requests) desk-is;
+  few = head-gone old new has gone (one-more old.acts new.acts (Tells client message) count);
+  gone = λ none. gone;
   rests = λ view o start block one. absurd (let no-block : ◌≡◌ {A = Option Block} None (Some block) = one in cc);
 }
+  where
+    gone : new.desk.requests ≡ drop 1 old.desk.requests
+    gone = ap (λ (d : Draft). d.desk.requests) is ∙ ap (λ (k : DeskValue). k.requests) desk-is
 
 -- an old request is dropped
 pub drop-serves : (old new : Draft) (client : ClientId) (number : ℕ) (call : Call)
     → new ≡ record old { desk = record old.desk { requests = drop 1 old.desk.requests }; acts = old.acts ++ Drops ∷ [] }
     → ((view : ℕ) → acts_of view new.acts ≡ act_of view Drops ∷ acts_of view old.acts)
     → ((view : ℕ) (o : Occasion) (start : ServerState) → Follows view o start old → ActsWell o start (reached view start old) (acts_of view old.acts) (act_of view Drops) → Follows view o start new)
+    → ((to : ℕ) → told_to to new.acts ≡ told_to to old.acts)
     → IsHead old (as_request client number (Alters call)) → number < (slot_at old.image.slots client.0).call
     → Serves (λ start. Unit {0}) (Unit {0}) old new None
 unfolding after_act
-drop-serves old new client number call is acts follows head below = record {
+drop-serves old new client number call is acts follows untold head below = record {
   goes = record {
     keeps = keeps-one old new Drops (ap (λ (d : Draft). d.acts) is) acts (ap (λ (d : Draft). record d.desk.collecting { table = old.desk.collecting.table }) is) (λ q. ap (λ (d : Draft). asked_at d.desk.asked q) is)
         (λ view c before. record { waits = refl; flushed = refl; admits = refl }) (λ view before. refl);
@@ -115,6 +122,7 @@ drop-serves old new client number call is acts follows head below = record {
     follows = λ view o start sees names f. follows view o start f (well-reached view o start old (act_of view Drops) f (well view o start f));
     unread = λ view o start sees other names f all. subst (λ (told : List lanes.Act). ReadNothing start told) (sym (acts view)) (all, tt);
   };
+  few = head-gone old new (has-head old (as_request client number (Alters call)) head) (ap (λ (d : Draft). d.desk.requests) is) (λ to. let told = untold to in omega arith);
   gone = λ none. ap (λ (d : Draft). d.desk.requests) is;
   rests = λ view o start block one. absurd (let no-block : ◌≡◌ {A = Option Block} None (Some block) = one in cc);
 }

@@ -30,7 +30,7 @@ use Rattle.server_book.specs.Alike.{Alike}
 use Rattle.server_book.proofs.Deciding.{reserve}
 use Rattle.server_book.proofs.Moving.{acts-once}
 use Rattle.server_desk.specs.Desk.{DeskValue, IsLike}
-use Rattle.server_draft.specs.Acts.{act_of, acts_of, deed_of}
+use Rattle.server_draft.specs.Acts.{act_of, acts_of, deed_of, told_to}
 use Rattle.server_draft.specs.Draft.{Follows, HasSpace, reached}
 use Rattle.server_draft.specs.declared.act.Act.TheVariants.{Commits, Tells}
 use Rattle.server_draft.specs.declared.act.Commit.{Commit}
@@ -38,10 +38,11 @@ use Rattle.server_draft.specs.declared.act.Deed.{Deed}
 use Rattle.server_draft.specs.declared.act.Deed.TheVariants.{Changes}
 use Rattle.server_draft.specs.declared.draft.Draft.{Draft}
 use Rattle.server_line.specs.Changed.{IsPlanned}
-use Rattle.server_line.specs.Known.{IsHead, known}
+use Rattle.server_line.specs.Known.{HasHead, IsHead, known}
 use Rattle.volume_names.specs.Named.{AreNamed}
 use Rattle.server_line.specs.Served.{Goes, ReadNothing, Serves}
 use Rattle.server_line.proofs.Changes.{admitted-known, done-well, kept-by, new-not-done}
+use Rattle.server_line.proofs.Counting.{has-head}
 use Rattle.server_line.proofs.Going.{alike-known, keeps-one, serves-then, well-reached}
 
 -- alike servers keep as much
@@ -158,14 +159,17 @@ number-kept draft mid client number call head is volume =
     (number_is_kept draft.image client number call (law.opened_files (known draft [])) volume head.request_is.client)).0
 
 -- and then the head, which still stands, is answered by it
-pub carried : (old mid new : Draft) (client : ClientId) (number : ℕ) (call : Call) (reply : Reply) → IsHead old (as_request client number (Alters call)) → mid.desk ≡ old.desk → Goes (λ start. Unit {0}) (Unit {0}) old mid
+pub carried : (old mid new : Draft) (client : ClientId) (number : ℕ) (call : Call) (reply : Reply) → IsHead old (as_request client number (Alters call)) → mid.desk ≡ old.desk → Goes (λ start. Unit {0}) (Unit {0}) old mid → ((to : ℕ) → told_to to mid.acts ≡ told_to to old.acts)
     → (slot_at mid.image.slots client.0).call ≡ number → reply ≡ (slot_at mid.image.slots client.0).reply
-    → (((view : ℕ) (o : Occasion) (start : ServerState) → Follows view o start mid → ActsWell o start (known mid (reached view start mid).sectors) (acts_of view mid.acts) (act_of view (Tells client (Done number reply)))) → Serves (λ start. Unit {0}) (Unit {0}) mid new None)
+    → (HasHead mid → ((view : ℕ) (o : Occasion) (start : ServerState) → Follows view o start mid → ActsWell o start (known mid (reached view start mid).sectors) (acts_of view mid.acts) (act_of view (Tells client (Done number reply)))) → Serves (λ start. Unit {0}) (Unit {0}) mid new None)
     → Serves (λ start. Unit {0}) (Unit {0}) old new None
-carried old mid new client number call reply head same goes called kept answers =
-    serves-then (λ start. Unit {0}) (Unit {0}) old mid new None goes (ap (λ (d : DeskValue). d.requests) same)
-    (answers (done-well mid client number call reply (record {
+carried old mid new client number call reply head same goes untold called kept answers =
+    serves-then (λ start. Unit {0}) (Unit {0}) old mid new None goes (ap (λ (d : DeskValue). d.requests) same) untold
+    (answers (has-head mid (as_request client number (Alters call)) still) (done-well mid client number call reply still called (sym kept)))
+  where
+    still : IsHead mid (as_request client number (Alters call))
+    still = record {
       admitted = ap (λ (d : DeskValue). missing_of d.collecting) same ∙ head.admitted;
       head_is = ap (λ (d : DeskValue). first_of d.requests) same ∙ head.head_is;
       request_is = head.request_is;
-    }) called (sym kept)))
+    }

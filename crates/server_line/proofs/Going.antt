@@ -1,5 +1,5 @@
 -- What stays as the service of a line goes on, act by act.
-use Rattle.std.proofs.Common.{◌≡◌, ◌++◌, ◌∷◌, ◌&&◌, [], ℕ, nat_eq, List, Bool, true, false, Option, drop, if◌then◌else◌, refl, sym, ap, subst, ◌∙◌}
+use Rattle.std.proofs.Common.{◌≡◌, ◌++◌, ◌∷◌, ◌&&◌, [], ℕ, nat_eq, List, Bool, true, false, Option, drop, if◌then◌else◌, refl, sym, ap, subst, ◌∙◌, arith}
 use Rattle.std.proofs.lemmas.List.{append-nil, append_assoc}
 use Rattle.cal_base.specs.declared.identity.ClientId.{ClientId}
 use Rattle.message.specs.declared.message.Message.{Message}
@@ -20,13 +20,14 @@ use Rattle.server_book.specs.Alike.{Alike, revoking}
 use Rattle.server_book.proofs.Keeping.{act-keeps}
 use Rattle.server_book.proofs.Moving.{alike-refl}
 use Rattle.server_desk.specs.Desk.{with_desk}
-use Rattle.server_draft.specs.Acts.{act_of, acts_of}
+use Rattle.server_draft.specs.Acts.{act_of, acts_of, told_to}
 use Rattle.server_draft.specs.Draft.{Follows, reached}
 use Rattle.server_draft.specs.declared.act.Act.{Act}
 use Rattle.server_draft.specs.declared.act.Act.TheVariants.{Tells}
 use Rattle.server_draft.specs.declared.draft.Draft.{Draft}
 use Rattle.server_line.specs.Known.{known}
-use Rattle.server_line.specs.Served.{Goes, IsAnswer, Keeps, ReadNothing, Serves, TellsNoMore}
+use Rattle.server_line.specs.Served.{Goes, IsAnswer, Keeps, ReadNothing, Serves, TellsNoMore, revokes_for}
+use Rattle.server_line.proofs.Counting.{grew-on, told-more}
 use Rattle.server_line.proofs.Asked.{none-left-same}
 
 -- what a draft knows is alike the law's server that it follows
@@ -183,14 +184,16 @@ module _ (Sees : ServerState → Type 0) (Other : Type 0) where
   pub serves-blind : (old new : Draft) (named : Option Block) → Serves (λ start. Unit {0}) (Unit {0}) old new named → Serves Sees Other old new named
   serves-blind old new named s = record {
     goes = goes-blind old new s.goes;
+    few = s.few;
     gone = s.gone;
     rests = λ view o start block is sees names f. s.rests view o start block is tt names f;
   }
 
   -- a head that is served after more was done
-  pub serves-then : (old mid new : Draft) (named : Option Block) → Goes Sees Other old mid → mid.desk.requests ≡ old.desk.requests → Serves Sees Other mid new named → Serves Sees Other old new named
-  serves-then old mid new named g same s = record {
+  pub serves-then : (old mid new : Draft) (named : Option Block) → Goes Sees Other old mid → mid.desk.requests ≡ old.desk.requests → ((to : ℕ) → told_to to mid.acts ≡ told_to to old.acts) → Serves Sees Other mid new named → Serves Sees Other old new named
+  serves-then old mid new named g same untold s = record {
     goes = goes-more old mid new g s.goes;
+    few = grew-on old mid new (revokes_for named) (told-more old mid 0 same (λ to. let told = untold to in omega arith)) s.few;
     gone = λ none. s.gone none ∙ ap (drop 1) same;
     rests = λ view o start block is sees names f. s.rests view o start block is sees (g.names names) (g.follows view o start sees names f);
   }

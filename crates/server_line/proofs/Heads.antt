@@ -1,8 +1,9 @@
 -- The line is served head after head.
-use Rattle.std.proofs.Common.{◌≡◌, ◌≢◌, ◌<◌, ◌∷◌, [], ℕ, List, Bool, true, false, Option, Some, None, Err, IsTrue, drop, length, refl, sym, ap, subst, ◌∙◌, true≢false, arith}
+use Rattle.std.proofs.Common.{◌≡◌, ◌≢◌, ◌∷◌, [], ℕ, List, Bool, true, false, Option, Some, None, Err, IsTrue, refl, sym, ap, subst, ◌∙◌, arith}
 use Rattle.std.specs.Prelude.{is_none, is_some, slice_get}
 use Rattle.std.specs.List.{All}
 use Rattle.std.proofs.lemmas.List.Elements.{All-head}
+use Rattle.cal_base.specs.Limits as limits
 use Rattle.cal_base.specs.declared.identity.ClientId.{ClientId}
 use Rattle.rebuild.specs.Collecting.{Collecting, missing_of}
 use Rattle.revocation.specs.Waiting.{IsRequest}
@@ -21,10 +22,11 @@ use Rattle.server_book.proofs.Deciding.{admitted, head-same}
 use Rattle.server_draft.specs.Draft.{Follows, reached}
 use Rattle.server_draft.specs.declared.draft.Draft.{Draft}
 use Rattle.server_line.specs.Known.{HasHead, IsHead, SeesOwn, known}
-use Rattle.server_line.specs.Served.{Goes, Keeps, Serves, Stops, WouldRead}
+use Rattle.server_line.specs.Served.{Goes, GrewBy, Keeps, Serves, Stops, WouldRead}
 use Rattle.server_line.specs.Stopping.{UnlessOom}
 use Rattle.server_line.specs.declared.stopping.ServeError.{ServeError}
-use Rattle.server_line.specs.declared.stopping.ServeError.TheVariants.{Oom, Refused}
+use Rattle.server_line.specs.declared.stopping.ServeError.TheVariants.{OutOfMemory, Refused}
+use Rattle.server_line.proofs.Counting.{grew-most}
 use Rattle.server_line.proofs.Going.{alike-known, goes-more}
 use Rattle.server_line.proofs.Wanted.{would-same}
 
@@ -37,14 +39,6 @@ head-copied draft request copy has is each same = subst (λ (r : Request). IsHea
     by (r ∷ rs) e all =
         let one : request ≡ r = cc in
         (ap (λ (x : Request). Some x) (sym one), subst (λ (x : Request). IsRequest x) (sym one) (All-head IsRequest r rs all))
-
--- one request less waits
-pub fewer-wait : (mid new : Draft) → HasHead mid → new.desk.requests ≡ drop 1 mid.desk.requests → length new.desk.requests < length mid.desk.requests
-fewer-wait mid new has gone = subst (λ (rs : List Request). length rs < length mid.desk.requests) (sym gone) (by mid.desk.requests has.waits)
-  where
-    by : (rs : List Request) → is_some (first_of rs) ≡ true → length (drop 1 rs) < length rs
-    by [] e = absurd (true≢false (sym e))
-    by (r ∷ rs) e = omega arith
 
 -- whom a server waits for is told without the table
 missing-same : (old new : Draft) → Keeps old new → missing_of new.desk.collecting ≡ missing_of old.desk.collecting
@@ -102,11 +96,16 @@ module _ (disk : Disk) (seat : ℕ) (old mid : Draft) (went : Goes (λ start. Se
 
   -- a block couldn't be read
   pub stopped-goes : (new : Draft) (error : ServeError) → Stops error mid new → UnlessOom {T = Option Block} (Err error) (Goes (λ start. SeesOwn start seat disk) (disk.key ≢ seat) old new)
-  stopped-goes new Oom stops = tt
+  stopped-goes new OutOfMemory stops = tt
   stopped-goes new (Refused why) stops = subst (λ (d : Draft). Goes (λ start. SeesOwn start seat disk) (disk.key ≢ seat) old d) (sym stops.0) went
 
   pub stopped-would : (new : Draft) (error : ServeError) → Stops error mid new → (view : ℕ) (o : Occasion) (start : ServerState) → SeesOwn start seat disk → AreNamed old.image → Follows view o start old → WouldRead error (reached view start new)
-  stopped-would new Oom stops view o start sees names f = tt
+  stopped-would new OutOfMemory stops view o start sees names f = tt
   stopped-would new (Refused why) stops view o start sees names f =
       let f' = subst (λ (d : Draft). Follows view o start d) (sym stops.0) (went.follows view o start sees names f) in
       subst (λ (b : Bool). IsTrue b) (would-anywhere new (reached view start new).sectors ∙ would-same (known new (reached view start new).sectors) (reached view start new) (alike-known view o start new f')) stops.1
+
+-- and then no more was told
+pub stopped-few : (old mid new : Draft) (error : ServeError) → GrewBy 0 old mid → Stops error mid new → UnlessOom {T = Option Block} (Err error) (GrewBy limits.inodes old new)
+stopped-few old mid new OutOfMemory few stops = tt
+stopped-few old mid new (Refused why) few stops = subst (λ (d : Draft). GrewBy limits.inodes old d) (sym stops.0) (grew-most old mid 0 limits.inodes (omega arith) few)

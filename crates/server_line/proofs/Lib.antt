@@ -2,6 +2,7 @@ pub mod Asked
 pub mod Changes
 pub mod Committed
 pub mod Contents
+pub mod Counting
 pub mod Firsts
 pub mod Gaps
 pub mod Giving

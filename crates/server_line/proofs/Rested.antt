@@ -1,7 +1,8 @@
 -- A head that is blocked: what blocks it is asked, and the first of it named.
-use Rattle.std.proofs.Common.{◌≡◌, ◌++◌, ◌∷◌, inr, [], ℕ, List, false, Option, Some, None, IsTrue, count_by, map, if◌then◌else◌, refl, sym, ap, subst, ◌∙◌, true≢false}
+use Rattle.std.proofs.Common.{◌≡◌, ◌≤◌, ◌+◌, ◌++◌, ◌∷◌, inr, [], ℕ, List, false, Option, Some, None, IsTrue, count_by, map, if◌then◌else◌, refl, sym, ap, subst, ◌∙◌, true≢false}
 use Rattle.std.specs.Option.{option_map}
 use Rattle.std.specs.Prelude.{is_none}
+use Rattle.cal_base.specs.Limits as limits
 use Rattle.cal_base.specs.declared.identity.ClientId.{ClientId}
 use Rattle.revocation.specs.Revokes.{AsksAll, revokes_of}
 use Rattle.token_kind.specs.Hold.{conflict}
@@ -30,16 +31,17 @@ use Rattle.server_book.proofs.Resting.{rests}
 use Rattle.server_book.proofs.Revoking.{tells-alone}
 use Rattle.server_book.proofs.Telling.{all-told, tell_all}
 use Rattle.server_desk.specs.Desk.{DeskValue}
-use Rattle.server_draft.specs.Acts.{acts_of, asked_back}
+use Rattle.server_draft.specs.Acts.{acts_of, asked_back, told_to}
 use Rattle.server_draft.specs.Draft.{Follows, reached}
 use Rattle.server_draft.specs.declared.draft.Draft.{Draft}
 use Rattle.server_line.specs.Blocked.{AreBlockers}
 use Rattle.server_line.specs.Known.{IsHead, known}
 use Rattle.volume.specs.Volume.{Volume}
 use Rattle.volume_names.specs.Named.{AreNamed}
-use Rattle.server_line.specs.Served.{ReadNothing, Serves, TellsNoMore}
+use Rattle.server_line.specs.Served.{GrewBy, ReadNothing, Serves, TellsNoMore, revokes_for}
 use Rattle.server_line.specs.declared.resting.Blockers.{Blockers}
 use Rattle.server_line.proofs.Asked.{none-left, revokes-same}
+use Rattle.server_line.proofs.Counting.{told-more}
 use Rattle.server_line.proofs.Going.{alike-known, revokes-quiet, revokes-read-nothing, revokes-remove-nothing}
 
 -- what holds the same as a table is one
@@ -123,10 +125,11 @@ pub rest-serves : (old new : Draft) (client : ClientId) (number : ℕ) (blockers
     → new.image ≡ old.image → new.acts ≡ old.acts ++ map asked_back (revokes_of old.desk.asked to_ask)
     → ((view : ℕ) → acts_of view new.acts ≡ revoking view (revokes_of old.desk.asked to_ask) (acts_of view old.acts))
     → ((view : ℕ) (o : Occasion) (start : ServerState) → Follows view o start old → EachAct start (ActsWell o start) (revoking view (revokes_of old.desk.asked to_ask) (acts_of view old.acts)) → Follows view o start new)
+    → ((to : ℕ) → told_to to new.acts ≤ told_to to old.acts + limits.inodes)
     → ((asked : Asked) → named ≡ option_map (block_by (as_request client number asked)) (first_of (blockers.to_ask ++ blockers.own)))
     → (asked : Asked) → IsHead old (as_request client number asked) → AreBlockers (known old []) (as_request client number asked) blockers → is_empty (blockers.to_ask ++ blockers.own) ≡ false
     → Serves (λ start. Unit {0}) (Unit {0}) old new named
-rest-serves old new client number blockers named to_ask is desk image grows acts follows named-is asked at-head are some = record {
+rest-serves old new client number blockers named to_ask is desk image grows acts follows few named-is asked at-head are some = record {
   goes = record {
     keeps = record {
       grows = record { more = map asked_back (revokes_of old.desk.asked to_ask); is = grows };
@@ -141,9 +144,14 @@ rest-serves old new client number blockers named to_ask is desk image grows acts
     unread = λ view o start sees other names f all.
         subst (λ (told : List law.Act). ReadNothing start told) (sym (acts view)) (revokes-read-nothing start view (revokes_of old.desk.asked to_ask) (acts_of view old.acts) all);
   };
+  few = asked-few named refl;
   gone = λ none. absurd (some-named (as_request client number asked) (blockers.to_ask ++ blockers.own) named some (named-is asked) none);
   rests = λ view o start block one sees names f.
       subst (λ (told : List law.Act). Rests (after_acts start told) named) (sym (acts view))
       (subst (λ (bs : List Blocker). Rests (after_acts start (revoking view (revokes_of old.desk.asked bs) (acts_of view old.acts))) named) (sym is)
       (rested old client number asked blockers at-head are some view o start f named (named-is asked)));
 }
+  where
+    asked-few : (n : Option Block) → named ≡ n → GrewBy (revokes_for n) old new
+    asked-few None e = absurd (some-named (as_request client number asked) (blockers.to_ask ++ blockers.own) named some (named-is asked) e)
+    asked-few (Some block) e = told-more old new limits.inodes (ap (λ (d : DeskValue). d.requests) desk.1) few

@@ -31,7 +31,7 @@ use Rattle.cluster_law.specs.ServerState.{ServerState, after_act, as_request, gr
 use Rattle.cluster_law.specs.Tokens.{same_class}
 use Rattle.server_book.specs.Alike.{Alike}
 use Rattle.server_book.proofs.Deciding.{blocked, head-same, held-same, lacks, short}
-use Rattle.server_draft.specs.Acts.{act_of, acts_of}
+use Rattle.server_draft.specs.Acts.{act_of, acts_of, tells, told_to}
 use Rattle.server_draft.specs.Draft.{Follows, HasSpace, reached}
 use Rattle.server_draft.specs.declared.act.Act.TheVariants.{Tells}
 use Rattle.server_draft.specs.declared.draft.Draft.{Draft}
@@ -41,11 +41,12 @@ use Rattle.server_line.specs.Known.{IsHead, SeesOwn, known}
 use Rattle.volume_names.specs.Named.{AreNamed}
 use Rattle.server_line.specs.Served.{Keeps, ReadNothing, Serves, Stops}
 use Rattle.server_line.specs.declared.stopping.ServeError.{ServeError}
-use Rattle.server_line.specs.declared.stopping.ServeError.TheVariants.{Oom, Refused}
+use Rattle.server_line.specs.declared.stopping.ServeError.TheVariants.{OutOfMemory, Refused}
 use Rattle.shared_disk.specs.declared.disk_refusal.DiskRefusal.{DiskRefusal}
 use Rattle.server_line.specs.declared.needing.Gap.{Gap}
 use Rattle.server_line.proofs.Changes.{admitted-known, space-known}
 use Rattle.server_line.proofs.Committed.{enough}
+use Rattle.server_line.proofs.Counting.{has-head, head-gone, one-more}
 use Rattle.server_line.proofs.Firsts.{both-empty, empty-is}
 use Rattle.server_line.proofs.Giving.{any-mapped, none-write, writes, writes-few}
 use Rattle.server_line.proofs.Going.{alike-known}
@@ -176,21 +177,23 @@ module _ (old : Draft) (client : ClientId) (number : ℕ) (gap : Gap) (want : Wa
           → ((view : ℕ) → acts_of view new.acts ≡ act_of view (Tells client (Gives number items)) ∷ acts_of view old.acts)
           → ((view : ℕ) (o : Occasion) (start : ServerState) → Follows view o start old → HasSpace (telling (known old (reached view start old).sectors) client (Gives number items))
           → ActsWell o start (known old (reached view start old).sectors) (acts_of view old.acts) (act_of view (Tells client (Gives number items))) → Follows view o start new)
+          → ((to : ℕ) → told_to to new.acts ≡ told_to to old.acts + tells to (Tells client (Gives number items)))
           → Serves (λ start. SeesOwn start seat disk) (disk.key ≢ seat) old new None
-      grant-serves keeps image gone acts follows = record {
+      grant-serves keeps image gone acts follows count = record {
         goes = record {
           keeps = keeps;
           names = λ names. subst (λ (v : Volume). AreNamed v) (sym image) names;
           follows = λ view o start sees names f. follows view o start f (space (reached view start old).sectors) (grant-well view o start sees names f);
           unread = λ view o start sees other names f all. subst (λ (told : List lanes.Act). ReadNothing start told) (sym (acts view)) (all, grant-unread view o start other f);
         };
+        few = head-gone old new (has-head old (as_request client number (Wants want)) at-head) gone (one-more old.acts new.acts (Tells client (Gives number items)) count);
         gone = λ none. gone;
         rests = λ view o start block one. absurd (let no-block : ◌≡◌ {A = Option Block} None (Some block) = one in cc);
       }
 
 -- where a block can't be read, nothing has changed, and the head would read it
 pub stops-by : (old new : Draft) (error : ServeError) → ((why : DiskRefusal) → error ≡ Refused why → new ≡ old) → ((why : DiskRefusal) → error ≡ Refused why → IsTrue (would_read (known old []) (head (known old [])))) → Stops error old new
-stops-by old new Oom same would = tt
+stops-by old new OutOfMemory same would = tt
 stops-by old new (Refused why) same would = (same why refl, subst (λ (d : Draft). IsTrue (would_read (known d []) (head (known d [])))) (sym (same why refl)) (would why refl))
 
 -- what is granted lacks

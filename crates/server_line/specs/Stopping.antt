@@ -4,17 +4,17 @@ use Rattle.cal_base.specs.Faults.{Rose}
 use Rattle.shared_disk.specs.Disk.{Disk, MeetsOther}
 use Rattle.shared_disk.specs.declared.disk_refusal.DiskRefusal.TheVariants.{Fenced, Failed}
 use Rattle.server_line.specs.declared.stopping.ServeError.{ServeError}
-use Rattle.server_line.specs.declared.stopping.ServeError.TheVariants.{Oom, Refused}
+use Rattle.server_line.specs.declared.stopping.ServeError.TheVariants.{OutOfMemory, Refused}
 
 -- something holds unless memory ran out
 abbrev pub UnlessOom : {T : Type 0} → Result T ServeError → Type 0 → Type 0
 UnlessOom (Ok x) P = P
-UnlessOom (Err Oom) P = Unit {0}
+UnlessOom (Err OutOfMemory) P = Unit {0}
 UnlessOom (Err (Refused why)) P = P
 
 -- why reads under this view are refused: the key is another, or the count of faults rose
 abbrev pub IsRefused : Disk → ℕ → ℕ → ServeError → ℕ → Type 0
-IsRefused disk view faults Oom faults' = Unit {0}
+IsRefused disk view faults OutOfMemory faults' = Unit {0}
 IsRefused disk view faults (Refused (Fenced mine current)) faults' = MeetsOther disk view mine current
 IsRefused disk view faults (Refused Failed) faults' = (disk.key ≡ view) × Rose faults faults'
 

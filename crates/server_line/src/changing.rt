@@ -8,12 +8,12 @@ ghost use Rattle.change_reply.specs.ReplyBytes.{IsChangeReply};
 ghost use Rattle.cluster_law.specs.Blocking as law;
 ghost use Rattle.cluster_law.specs.ServerRules.{ActsWell, Occasion};
 ghost use Rattle.cluster_law.specs.ServerState.{ServerState, as_request};
-ghost use Rattle.server_draft.specs.Acts.{act_of, acts_of};
+ghost use Rattle.server_draft.specs.Acts.{act_of, acts_of, told_to};
 ghost use Rattle.server_draft.specs.Draft.{Follows, reached};
 ghost use Rattle.server_draft.specs.declared.act.Act.TheVariants.{Tells};
 ghost use Rattle.server_line.specs.Blocked.{AreBlockers, CanBeAsked};
 ghost use Rattle.server_line.specs.Changed.{IsPlanned};
-ghost use Rattle.server_line.specs.Known.{IsHead, known};
+ghost use Rattle.server_line.specs.Known.{HasHead, IsHead, known};
 ghost use Rattle.server_line.specs.Served.{Goes, IsAnswer, Serves};
 
 use crate::resting::{Blockers, is_free, or_space, rest, table_of};
@@ -56,7 +56,7 @@ pub(crate) fn serve_change(
 pub(crate) fn answer(draft: &mut Draft, client: ClientId, message: Message) -> Result<(), Oom>
     requires client { client.0 < limits.clients }
     requires message { IsMessage message }
-    ensures { OnOk result (IsAnswer message → ((view : ℕ) (o : Occasion) (start : ServerState) → Follows view o start draft.old → ActsWell o start (known draft.old (reached view start draft.old).sectors) (acts_of view draft.old.acts) (act_of view (Tells client message)))
+    ensures { OnOk result (HasHead draft.old → IsAnswer message → ((view : ℕ) (o : Occasion) (start : ServerState) → Follows view o start draft.old → ActsWell o start (known draft.old (reached view start draft.old).sectors) (acts_of view draft.old.acts) (act_of view (Tells client message)))
         → Serves (λ start. Unit {0}) (Unit {0}) draft.old draft.new None) }
 {
     draft.desk.drop_head();
@@ -162,6 +162,7 @@ fn commit(
     requires new { (slot_at draft.old.image.slots client.0).call < number }
     requires planned { IsPlanned draft.old client number call planned }
     ensures desk { OnOk result (draft.new.desk ≡ draft.old.desk) }
+    ensures untold { OnOk result ((to : ℕ) → told_to to draft.new.acts ≡ told_to to draft.old.acts) }
     ensures image { OnOk result (draft.new.image ≡ edited draft.old.image (law.planned (known draft.old []) client number call).edit) }
     ensures goes { OnOk result (law.blocks (known draft.old []) (as_request client number (Alters call)) ≡ [] → Goes (λ start. Unit {0}) (Unit {0}) draft.old draft.new) }
 {

@@ -1,4 +1,4 @@
-ghost use Rattle.std.specs.Prelude.{◌≡◌, ◌≢◌, ◌<◌, ◌≤◌, ◌++◌, ◌∷◌, [], ℕ, true, false, List, All, IfOk, IfErr, None, OnOk, drop, length, map, nat_lt, not};
+ghost use Rattle.std.specs.Prelude.{◌≡◌, ◌≢◌, ◌<◌, ◌≤◌, ◌+◌, ◌++◌, ◌∷◌, [], ℕ, true, false, List, All, IfOk, IfErr, None, OnOk, drop, length, map, nat_lt, not};
 ghost use Rattle.std.specs.List.{list_any};
 ghost use Rattle.cal_base.specs.Limits as limits;
 ghost use Rattle.message.specs.Range as range;
@@ -19,7 +19,7 @@ ghost use Rattle.cluster_law.specs.Granting.{AreBytes, AreEntriesOf, IsFreshCont
 ghost use Rattle.cluster_law.specs.Lists.{is_empty};
 ghost use Rattle.cluster_law.specs.ServerRules.{ActsWell, Occasion};
 ghost use Rattle.cluster_law.specs.ServerState.{ServerState, as_request, granted_token, telling};
-ghost use Rattle.server_draft.specs.Acts.{act_of, acts_of};
+ghost use Rattle.server_draft.specs.Acts.{act_of, acts_of, tells, told_to};
 ghost use Rattle.server_draft.specs.Draft.{Follows, HasSpace, reached};
 ghost use Rattle.server_draft.specs.declared.act.Act.TheVariants.{Tells};
 ghost use Rattle.server_line.specs.Blocked.{IsGap};
@@ -133,6 +133,7 @@ fn give(
     ensures image { OnOk result (draft.new.image ≡ draft.old.image) }
     ensures gone { OnOk result (draft.new.desk.requests ≡ drop 1 draft.old.desk.requests) }
     ensures acts { OnOk result ((view : ℕ) → acts_of view draft.new.acts ≡ act_of view (Tells client (Grants number items)) ∷ acts_of view draft.old.acts) }
+    ensures count { OnOk result ((to : ℕ) → told_to to draft.new.acts ≡ told_to to draft.old.acts + tells to (Tells client (Grants number items))) }
     ensures follows { OnOk result ((view : ℕ) (o : Occasion) (start : ServerState) → Follows view o start draft.old → HasSpace (telling (known draft.old (reached view start draft.old).sectors) client (Grants number items))
         → ActsWell o start (known draft.old (reached view start draft.old).sectors) (acts_of view draft.old.acts) (act_of view (Tells client (Grants number items))) → Follows view o start draft.new) }
 {

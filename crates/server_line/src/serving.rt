@@ -1,4 +1,5 @@
-ghost use Rattle.std.specs.Prelude.{◌≡◌, ◌≢◌, ◌↔◌, [], ℕ, List, None, IfOk, IfErr, IsTrue, OnOk};
+ghost use Rattle.std.specs.Prelude.{◌≡◌, ◌≢◌, ◌≤◌, ◌+◌, ◌↔◌, [], ℕ, List, None, IfOk, IfErr, IsTrue, OnOk};
+ghost use Rattle.cal_base.specs.Limits as limits;
 ghost use Rattle.rebuild.specs.Collecting.{missing_of};
 ghost use Rattle.revocation.specs.Revokes.{revokes_of};
 ghost use Rattle.token_kind.specs.declared.blocker.Blocker.{Blocker};
@@ -9,7 +10,7 @@ ghost use Rattle.cluster_law.specs.Removing.{has_removed};
 ghost use Rattle.cluster_law.specs.ServerRules.{LineRests, Occasion};
 ghost use Rattle.cluster_law.specs.ServerState.{ServerState, is_admitted};
 ghost use Rattle.server_draft.specs.Acts.{acts_of};
-ghost use Rattle.server_draft.specs.Draft.{Follows, Grows, reached};
+ghost use Rattle.server_draft.specs.Draft.{Follows, Grows, reached, told_or_waiting};
 ghost use Rattle.server_line.specs.Known.{HasHead, IsHead, SeesOwn};
 ghost use Rattle.server_line.specs.Served.{Goes, ReadNothing, Serves, Stops, TellsNoMore, WouldRead};
 ghost use Rattle.server_line.specs.Stopping.{OnlyReads, UnlessOom};
@@ -33,6 +34,9 @@ use tree_law::{Asked, Request};
 /// the view, and each name of the volume stands for something; then the line rests. Also where a block couldn't be
 /// read: then the head would read one. After want of memory nothing is promised of the draft.
 ///
+/// What a client is told and the requests that wait grow together by at most one Revoke for each inode: an answer
+/// takes the place of its request, and what blocks a head is asked back once.
+///
 /// # Errors
 /// `Refused` where a block of a file couldn't be read: `Fenced` only where the key is another than the view,
 /// `Failed` only where the count of faults rose.
@@ -55,6 +59,7 @@ pub fn serve_line<D: PortDisk>(
     ensures lower { UnlessOom result ((blockers : List Blocker) → revokes_of draft.old.desk.asked blockers ≡ [] → revokes_of draft.new.desk.asked blockers ≡ []) }
     ensures told { UnlessOom result ((view client : ℕ) → TellsNoMore client (acts_of view draft.old.acts) (acts_of view draft.new.acts)) }
     ensures removed { UnlessOom result ((view : ℕ) → has_removed (acts_of view draft.new.acts) ≡ has_removed (acts_of view draft.old.acts)) }
+    ensures few { UnlessOom result ((to : ℕ) → told_or_waiting to draft.new ≤ told_or_waiting to draft.old + limits.inodes) }
 {
     serve_all(alloc, draft, port, disk)
 }
@@ -71,6 +76,7 @@ fn serve_all<D: PortDisk>(
         → LineRests (is_admitted (reached view start draft.new)) (reached view start draft.new) named) }
     ensures stops { IfErr result (λ error. (view : ℕ) (o : Occasion) (start : ServerState) → SeesOwn start port.now.view (D.means disk.old) → AreNamed draft.old.image → Follows view o start draft.old → WouldRead error (reached view start draft.new)) }
     ensures reads { OnlyReads (D.means disk.old) port.now.view (D.fault_count disk.old) result (D.means disk.new) (D.fault_count disk.new) }
+    ensures few { UnlessOom result ((to : ℕ) → told_or_waiting to draft.new ≤ told_or_waiting to draft.old + limits.inodes) }
 {
     while has_head(draft) {
         match serve_head(alloc, draft, port, disk) {

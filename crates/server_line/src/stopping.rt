@@ -1,5 +1,5 @@
 ghost use Rattle.std.specs.Prelude.{◌≡◌};
-ghost use Rattle.server_line.specs.declared.stopping.ServeError.TheVariants.{Oom, Refused};
+ghost use Rattle.server_line.specs.declared.stopping.ServeError.TheVariants.{OutOfMemory, Refused};
 
 use cal_base::Oom;
 use shared_disk::DiskRefusal;
@@ -9,24 +9,24 @@ use std::alloc::AllocError;
 #[derive(Clone, Copy, Debug, PartialEq, Eq)]
 pub enum ServeError {
     /// Memory ran out.
-    Oom,
+    OutOfMemory,
     /// A block of a file that was to be granted could not be read.
     Refused(DiskRefusal),
 }
 
 impl From<Oom> for ServeError {
-    ghost from_gives = { λ _ error. error ≡ Oom };
+    ghost from_gives = { λ _ error. error ≡ OutOfMemory };
 
     fn from(_error: Oom) -> ServeError {
-        ServeError::Oom
+        ServeError::OutOfMemory
     }
 }
 
 impl From<AllocError> for ServeError {
-    ghost from_gives = { λ _ error. error ≡ Oom };
+    ghost from_gives = { λ _ error. error ≡ OutOfMemory };
 
     fn from(_error: AllocError) -> ServeError {
-        ServeError::Oom
+        ServeError::OutOfMemory
     }
 }
 

@@ -3,6 +3,8 @@ use Rattle.std.specs.Prelude.{None}
 use Rattle.tree_law.specs.declared.request.Asked.TheVariants.{Want as Wants}
 use Rattle.volume_plan.specs.Plans.{free_count}
 use Rattle.server_line.specs.Known.{SeesOwn}
+use Rattle.cluster_law.specs.ServerState.{as_request}
+use Rattle.server_line.proofs.Counting.{has-head}
 use Rattle.server_line.proofs.Going.{serves-blind}
 use Rattle.server_line.proofs.Wanted.{all-grantable, all-lack, is-enough, is-less, refuse-well, stops-by, would}
 use Rattle.server_line.proofs.granting.serve_want.Goals as goal
@@ -18,7 +20,7 @@ returns-then-free-gap-clause-serves g c =
     let free : c.is_free.result ≡ true = search rules in
     let less : c.free-free.result < c.in_ok-gap.gap.wanted = c.if-free-gap.true in
     serves-blind (λ start. SeesOwn start c.args.port.now.view (g.D.PortDisk.means c.args.disk.now)) ((g.D.PortDisk.means c.args.disk.now).key ≢ c.args.port.now.view) c.args.draft.now c.answer.new.draft None
-    (c.in_ok-answer.ensures tt
+    (c.in_ok-answer.ensures (has-head c.args.draft.now (as_request c.args.client c.args.number (Wants c.args.want.now)) c.requires) tt
     (refuse-well c.args.draft.now c.args.client c.args.number c.in_ok-gap.gap c.args.want.now c.requires (λ sectors. c.in_ok-gap.ensures.gap sectors c.args.number) (sym c.is_free.ensures ∙ free)
     (is-less c.free-free.result (free_count c.args.draft.now.image) c.in_ok-gap.gap.wanted c.free-free.ensures.free less) c.free-free.result c.free-free.ensures.free))
 

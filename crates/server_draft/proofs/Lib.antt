@@ -1,5 +1,5 @@
 mod Acting
 mod Asking
-mod Counting
+pub mod Counting
 mod Following
 mod Writing

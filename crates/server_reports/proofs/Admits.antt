@@ -14,11 +14,11 @@ use Rattle.cluster_law.specs.ServerState.{ServerState, is_admitted}
 use Rattle.server_book.proofs.Deciding.{admits}
 use Rattle.server_desk.specs.Desk.{DeskValue, with_desk}
 use Rattle.server_draft.specs.Acts.{acts_of}
-use Rattle.server_draft.specs.Draft.{Follows, reached}
+use Rattle.server_draft.specs.Draft.{Follows, TellsOnly, reached}
 use Rattle.server_draft.specs.declared.act.Act.{Act}
 use Rattle.server_draft.specs.declared.act.Act.TheVariants.{Tells}
 use Rattle.server_draft.specs.declared.draft.Draft.{Draft}
-use Rattle.server_reports.specs.Reports.{HasAdmittedNobody, TellsOnly, with_admit}
+use Rattle.server_reports.specs.Reports.{HasAdmittedNobody, with_admit}
 use Rattle.server_reports.proofs.Putting.{law-misses, tells-one-more, told-put}
 
 -- where no client below a number passes a test, none is left of them

@@ -37,11 +37,11 @@ first-is true None c is = ap (option_map (λ (c : ClientId). c.0)) is
 first-is true (Some n) c is = ap (option_map (λ (c : ClientId). c.0)) is
 
 -- the next client that is asked: it stands within the list, and is listed alone
-record IsNext (s : Collecting) (c : ClientId) : Type 0 where
-  within : c.0 < length s.standings
-  listed : get_or s.standings c.0 Unlisted ≡ Listed
+pub record IsNext (s : Collecting) (c : ClientId) : Type 0 where
+  pub within : c.0 < length s.standings
+  pub listed : get_or s.standings c.0 Unlisted ≡ Listed
 
-next-is : (s : Collecting) (c : ClientId) → next_of s ≡ Some c → IsNext s c
+pub next-is : (s : Collecting) (c : ClientId) → next_of s ≡ Some c → IsNext s c
 next-is s c is =
     let at = position-Some is_to_ask s.standings c.0 Unlisted (first-is (nat_lt (count_by is_asked s.standings) s.window) (position is_to_ask s.standings) c is) in
     record { within = at.0; listed = to-ask-is-listed (get_or s.standings c.0 Unlisted) at.1 }

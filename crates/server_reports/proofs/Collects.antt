@@ -8,10 +8,10 @@ use Rattle.cluster_law.specs.Asking.{first_to_admit, is_admit}
 use Rattle.cluster_law.specs.ServerRules.{Collected, Occasion}
 use Rattle.cluster_law.specs.ServerState.{ServerState, is_admitted}
 use Rattle.server_draft.specs.Acts.{acts_of}
-use Rattle.server_draft.specs.Draft.{Follows, reached}
+use Rattle.server_draft.specs.Draft.{Follows, TellsOnly, reached}
 use Rattle.server_draft.specs.declared.act.Act.{Act}
 use Rattle.server_draft.specs.declared.draft.Draft.{Draft}
-use Rattle.server_reports.specs.Reports.{HasAdmittedNobody, TellsOnly}
+use Rattle.server_reports.specs.Reports.{HasAdmittedNobody}
 use Rattle.server_reports.proofs.Putting.{law-asks, law-misses}
 
 module _ (view : ℕ) (o : Occasion) (start : ServerState) (d : Draft) (follows : Follows view o start d) where

@@ -2,3 +2,4 @@ mod Putting
 mod Asking
 mod Admits
 mod Collects
+mod Counting

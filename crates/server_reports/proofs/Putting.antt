@@ -13,11 +13,10 @@ use Rattle.cluster_law.specs.ServerState.{ServerState, after_act}
 use Rattle.server_book.proofs.Deciding.{missing, next}
 use Rattle.server_desk.specs.Desk.{with_desk}
 use Rattle.server_draft.specs.Acts.{act_of, acts_of}
-use Rattle.server_draft.specs.Draft.{Follows, HasSpace, reached}
+use Rattle.server_draft.specs.Draft.{Follows, HasSpace, TellsOnly, reached}
 use Rattle.server_draft.specs.declared.act.Act.{Act}
 use Rattle.server_draft.specs.declared.act.Act.TheVariants.{Tells}
 use Rattle.server_draft.specs.declared.draft.Draft.{Draft}
-use Rattle.server_reports.specs.Reports.{TellsOnly}
 
 -- the last act stands first in the law's list
 last-first : (view : ℕ) (acts : List Act) (act : Act) (old : List law.Act) → onto (map (act_of view) (acts ++ act ∷ [])) old ≡ act_of view act ∷ onto (map (act_of view) acts) old

@@ -1,16 +1,12 @@
 -- What a server puts to a draft as it collects what clients hold.
 use Rattle.std.specs.Prelude.{◌≡◌, ◌⊎◌, ◌∷◌, ◌++◌, [], ℕ, Bool, true, false, List, Option, Some, None}
 use Rattle.cal_base.specs.declared.identity.ClientId.{ClientId}
-use Rattle.message.specs.declared.message.Message.{Message}
 use Rattle.message.specs.declared.message.Message.TheVariants.{Admit, Wait}
 use Rattle.rebuild.specs.Collecting.{missing_of, standing_of}
 use Rattle.rebuild.specs.declared.reporting.Reporting.{Reporting}
 use Rattle.rebuild.specs.declared.reporting.Reporting.TheVariants.{Listed, Asked}
 use Rattle.cluster_law.specs.Asking.{is_admit, was_told}
-use Rattle.cluster_law.specs.Lists.{Each}
-use Rattle.cluster_law.specs.Removing.{has_removed}
 use Rattle.server_draft.specs.Acts.{acts_of}
-use Rattle.server_draft.specs.Draft.{Grows}
 use Rattle.server_draft.specs.declared.act.Act.{Act}
 use Rattle.server_draft.specs.declared.act.Act.TheVariants.{Tells}
 use Rattle.server_draft.specs.declared.draft.Draft.{Draft}
@@ -24,12 +20,6 @@ with_wait draft client number (Some least) = record draft { acts = draft.acts ++
 abbrev pub with_admit : Draft → ClientId → Bool → Draft
 with_admit draft client false = draft
 with_admit draft client true = record draft { acts = draft.acts ++ Tells client Admit ∷ [] }
-
--- acts were put to others: they tell nothing but such messages, and remove nothing
-pub record TellsOnly (messages : List Message) (old new : List Act) : Type 0 where
-  pub grows : Grows old new
-  pub others : (view client : ℕ) (test : Message → Bool) → Each (λ message. test message ≡ false) messages → was_told client test (acts_of view new) ≡ was_told client test (acts_of view old)
-  pub removed : (view : ℕ) → has_removed (acts_of view new) ≡ has_removed (acts_of view old)
 
 -- nobody was told to be admitted
 abbrev pub HasAdmittedNobody : ℕ → List Act → Type 0

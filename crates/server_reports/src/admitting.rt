@@ -1,13 +1,13 @@
-ghost use Rattle.std.specs.Prelude.{◌≡◌, ◌∷◌, ◌<◌, [], ℕ, IsTrue, None, Some, OnOk, false};
+ghost use Rattle.std.specs.Prelude.{◌≡◌, ◌∷◌, ◌<◌, ◌≤◌, ◌+◌, [], ℕ, IsTrue, None, Some, OnOk, false};
 ghost use Rattle.cal_base.specs.Limits as limits;
 ghost use Rattle.message.specs.declared.message.Message.TheVariants.{Admit};
 ghost use Rattle.rebuild.specs.Collecting.{standing_of};
 ghost use Rattle.cluster_law.specs.Asking.{first_to_admit, is_whole};
 ghost use Rattle.cluster_law.specs.ServerRules.{Occasion};
 ghost use Rattle.cluster_law.specs.ServerState.{ServerState, is_admitted};
-ghost use Rattle.server_draft.specs.Acts.{acts_of};
-ghost use Rattle.server_draft.specs.Draft.{Follows, reached};
-ghost use Rattle.server_reports.specs.Reports.{HasAdmittedNobody, TellsOnly, with_admit};
+ghost use Rattle.server_draft.specs.Acts.{acts_of, told_to};
+ghost use Rattle.server_draft.specs.Draft.{Follows, TellsOnly, reached};
+ghost use Rattle.server_reports.specs.Reports.{HasAdmittedNobody, with_admit};
 
 use cal_base::{CLIENTS, ClientId, Oom};
 use message::Message;
@@ -20,6 +20,7 @@ pub fn admit_clients(draft: &mut Draft) -> Result<(), Oom>
     ensures desk { OnOk result (draft.new.desk ≡ draft.old.desk) }
     ensures image { OnOk result (draft.new.image ≡ draft.old.image) }
     ensures acts { OnOk result (TellsOnly (Admit ∷ []) draft.old.acts draft.new.acts) }
+    ensures few { OnOk result ((to : ℕ) → told_to to draft.new.acts ≤ told_to to draft.old.acts + 1) }
     ensures follows { OnOk result ((view : ℕ) (o : Occasion) (start : ServerState) → Follows view o start draft.old → o.was_admitted ≡ false → IsTrue (is_admitted (reached view start draft.old))
         → HasAdmittedNobody view draft.old.acts → Follows view o start draft.new) }
     ensures all { OnOk result ((view : ℕ) (o : Occasion) (start : ServerState) → Follows view o start draft.old → o.was_admitted ≡ false → IsTrue (is_admitted (reached view start draft.old))

@@ -1,6 +1,8 @@
 use Rattle.std.proofs.Common.{refl, sym, ◌∙◌}
+use Rattle.message.specs.declared.message.Message.TheVariants.{Wait}
 use Rattle.server_draft.specs.Acts.{acts_of}
 use Rattle.server_draft.specs.Draft.{reached}
+use Rattle.server_reports.proofs.Counting.{one-at-most}
 use Rattle.server_reports.proofs.Putting.{law-misses, waits-well}
 use Rattle.server_reports.proofs.waiting.answer_wait.Goals as goal
 
@@ -13,3 +15,6 @@ returns-in_ok-tell-clause-follows c view o start follows took once =
     c.in_ok-tell.ensures.follows view o start before follows refl refl follows.like follows.space
     (waits-well view o start (reached view start before) (acts_of view before.acts) c.args.client c.args.number c.in-Some.least follows.space
     (record { taken = took; least_is = sym (law-misses view o start before follows) ∙ sym c.in-Some.ensures.missing; once = once }))
+
+pub returns-in_ok-tell-clause-few : goal.returns-in_ok-tell-clause-few
+returns-in_ok-tell-clause-few c to = one-at-most to c.args.client (Wait c.args.number c.in-Some.least) c.args.draft.now.acts c.tell.new.self.acts (c.in_ok-tell.ensures.count to)

@@ -8,14 +8,14 @@ use Rattle.cluster_law.specs.Noted.{DiskAt}
 use Rattle.cluster_law.specs.ServerState.{is_present, listing_all}
 use Rattle.cluster_law.specs.declared.node.ServerHalted.{ServerHalted}
 use Rattle.cluster_law.specs.declared.node.ServerOutput.{ServerOutput}
-use Rattle.rebuild.specs.Collecting.{next_of}
+use Rattle.rebuild.specs.Collecting.{Collecting, next_of}
 use Rattle.server_desk.specs.Desk.{DeskValue}
 use Rattle.shared_disk.specs.Disk.{Disk}
 use Rattle.shared_disk.specs.declared.stop.Stop.{Stop}
 use Rattle.token_table.specs.Blockers.{clients_below}
 use Rattle.volume.specs.Volume.{Volume}
 use Rattle.server_start.specs.Asks.{mail_asking}
-use Rattle.server_start.specs.Boots.{BootEnds, Serves, was_asked}
+use Rattle.server_start.specs.Boots.{BootEnds, HasBooted, Serves, was_asked}
 use Rattle.server_start.specs.Disks.{IsAt, StandsSo}
 use Rattle.server_start.specs.Formats.{new_desk}
 use Rattle.server_start.specs.Opening.{IsOpen, IsReplayed}
@@ -76,3 +76,13 @@ serves id view window stop before opened started output desk listed mail d f the
         head = head;
       };
     }
+
+-- and what it has then, whatever its disk tells
+pub begins : (id : ServerId) (view : View) (started : Started) (window : ℕ) (desk listed : DeskValue) (mail : Mail) (listings : Collecting)
+    → started.port.view ≡ view.0 → desk ≡ new_desk window → listed ≡ record desk { collecting = listings } → started.desk.requests ≡ listed.requests
+    → mail ≡ mail_asking id view (was_asked started.desk) → started.mail ≡ after_taking mail → HasBooted id view started
+begins id view started window desk listed mail listings port new lists same mails taken = record {
+  port = port;
+  unwanted = same ∙ ap (λ (d : DeskValue). d.requests) lists ∙ ap (λ (d : DeskValue). d.requests) new;
+  mail = taken ∙ ap after_taking mails;
+}

@@ -265,3 +265,8 @@ asks-all view window own volume desk none is =
 pub mounts-first : (view : ℕ) (own : List (List ℕ)) (volume : Volume) (asked : List ClientId) → SpellsVolume own volume → IsVolume volume → BootActs own (boot_acts view volume asked)
 mounts-first view own volume [] spells is = (spells, is)
 mounts-first view own volume (c ∷ asked) spells is = mounts-first view own volume asked spells is
+
+-- a desk went on to ask clients: the same requests wait, and it is still one that asks
+pub record AsksOn (first desk : DeskValue) : Type 0 where
+  pub requests : desk.requests ≡ first.requests
+  pub asks : (view window : ℕ) (own : List (List ℕ)) (volume : Volume) → IsAsking view window own first volume → IsAsking view window own desk volume

@@ -70,6 +70,13 @@ pub record Serves (id : ServerId) (view : View) (window : ℕ) (stop : Option St
   pub entries : output.entries ≡ []
   pub head : output.head ≡ None
 
+-- what a server has that booted, whatever the disk tells: the port of its view, no request, and the sessions in which
+-- those clients are asked that its desk has asked
+pub record HasBooted (id : ServerId) (view : View) (started : Started) : Type 0 where
+  pub port : started.port.view ≡ view.0
+  pub unwanted : started.desk.requests ≡ []
+  pub mail : started.mail ≡ after_taking (mail_asking id view (was_asked started.desk))
+
 -- how a boot ended, on a disk that tells its sectors
 abbrev pub BootEnds : ServerId → View → ℕ → Option Stop → DiskAt → Result (Started × ServerOutput) StepError → DiskAt → Type 0
 BootEnds id view window stop before (Ok served) after = Serves id view window stop before served.0 served.1 after

@@ -74,6 +74,7 @@ fn is_asked(desk: &Desk, client: ClientId) -> bool
 /// Asks clients for their reports, as many as the window lets.
 pub(crate) fn ask_clients(desk: &mut Desk)
     ensures asked { next_of desk.new.collecting ≡ None }
+    ensures requests { desk.new.requests ≡ desk.old.requests }
     ensures asks { (view window : ℕ) (own : List (List ℕ)) (volume : Volume) → IsAsking view window own desk.old volume → IsAsking view window own desk.new volume }
 {
     while let Some(_) = desk.ask_next() {}

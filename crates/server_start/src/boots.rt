@@ -5,7 +5,7 @@ ghost use Rattle.server_start.specs.Asks.{mail_asking};
 ghost use Rattle.server_start.specs.Formats.{new_desk};
 ghost use Rattle.cal_base.specs.Limits as limits;
 ghost use Rattle.cluster_law.specs.Noted.{DiskAt};
-ghost use Rattle.server_start.specs.Boots.{BootEnds, IsAsItWas};
+ghost use Rattle.server_start.specs.Boots.{BootEnds, HasBooted, IsAsItWas};
 ghost use Rattle.server_start.specs.Disks.{IsAt, StandsSo};
 ghost use Rattle.server_start.specs.declared.stops.StepError.TheVariants.{OutOfMemory};
 
@@ -35,6 +35,7 @@ pub fn boot<D: PortDisk>(
     window: u8,
     stop: Option<Stop>,
 ) -> Result<(Started, ServerOutput), StepError>
+    ensures begins { IfOk result (λ made. HasBooted id view made.0) }
     ensures ends { (before : DiskAt) → IsAt (D.means disk.old) (D.fault_count disk.old) before → length before.sectors ≡ limits.sectors
         → StandsSo (D.means disk.new) (D.fault_count disk.new) (BootEnds id view window stop before result) }
     ensures oom { result ≡ Err OutOfMemory → IsAsItWas (D.means disk.old) (D.fault_count disk.old) (D.means disk.new) (D.fault_count disk.new) }

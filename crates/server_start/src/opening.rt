@@ -1,4 +1,4 @@
-ghost use Rattle.std.specs.Prelude.{◌≡◌, ◌≤◌, ◌+◌, ◌-◌, [], length, OnOk, vec_capacity, vec_len};
+ghost use Rattle.std.specs.Prelude.{◌≡◌, ◌≤◌, ◌+◌, ◌-◌, [], length, IfOk, OnOk, vec_capacity, vec_len};
 ghost use Rattle.cal_base.specs.Limits as limits;
 ghost use Rattle.cluster_law.specs.Noted.{DiskAt};
 ghost use Rattle.journal.specs.Replay.{replay_length};
@@ -39,7 +39,8 @@ pub(crate) fn open_volume<D: PortDisk>(
     requires room { replay_length ≤ (D.means disk.old).room }
     requires empty { list.items ≡ [] }
     requires space { replay_length ≤ vec_capacity list - vec_len list }
-    ensures { (before : DiskAt) → IsAt (D.means disk.old) (D.fault_count disk.old) before → length before.sectors ≡ limits.sectors
+    ensures port { IfOk result (λ opened. opened.port.view ≡ view.0) }
+    ensures ends { (before : DiskAt) → IsAt (D.means disk.old) (D.fault_count disk.old) before → length before.sectors ≡ limits.sectors
         → StandsSo (D.means disk.new) (D.fault_count disk.new) (OpenEnds view.0 stop before result image.new) }
 {
     let mut port = match Port::take(disk, view) {

@@ -5,6 +5,7 @@ use Rattle.std.proofs.lemmas.List.Elements.{All-contains, All-head, All-tail}
 use Rattle.std.proofs.lemmas.Map.Steps.{length-le_from_distinct_below}
 use Rattle.cal_base.specs.Limits as limits
 use Rattle.cal_base.specs.declared.identity.ClientId.{ClientId}
+use Rattle.message.specs.declared.message.Message.{Message}
 use Rattle.token_kind.specs.Kept.{IsRevoke}
 use Rattle.token_kind.specs.declared.blocker.Blocker.{Blocker}
 use Rattle.token_kind.specs.declared.«class».Class.{Class}
@@ -15,6 +16,7 @@ use Rattle.revocation.specs.Reasons.{IsOfBlockers}
 use Rattle.server_draft.specs.Acts.{asked_back, tells, told_to}
 use Rattle.server_draft.specs.Draft.{IsWithin}
 use Rattle.server_draft.specs.declared.act.Act.{Act}
+use Rattle.server_draft.specs.declared.act.Act.TheVariants.{Tells}
 
 plus-zero : (n : ℕ) → n + 0 ≡ n
 plus-zero n = omega arith
@@ -39,6 +41,14 @@ counted-one old new act to is = ap (told_to to) is ∙ told-append to old (act �
 -- one that is no message makes none
 pub counted-none : (old new : List Act) (act : Act) (to : ℕ) → tells to act ≡ 0 → new ≡ old ++ act ∷ [] → told_to to new ≡ told_to to old
 counted-none old new act to none is = counted-one old new act to is ∙ ap (λ (n : ℕ). told_to to old + n) none ∙ plus-zero (told_to to old)
+
+-- a message is at most one for a client
+pub one-at-most : (to : ℕ) (c : ClientId) (message : Message) (old new : List Act) → told_to to new ≡ told_to to old + tells to (Tells c message) → told_to to new ≤ told_to to old + 1
+one-at-most to c message old new count = by (nat_eq c.0 to) count
+  where
+    by : (b : Bool) → told_to to new ≡ told_to to old + (if b then 1 else 0) → told_to to new ≤ told_to to old + 1
+    by true is = omega (arith, is)
+    by false is = omega (arith, is)
 
 -- the inodes about which Revokes go to a client
 abbrev inodes_to : ℕ → List (ClientId × Revoke) → List ℕ

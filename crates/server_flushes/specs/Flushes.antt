@@ -1,18 +1,13 @@
 -- What a server does with a flush.
-use Rattle.std.specs.Prelude.{◌≡◌, ◌++◌, ◌∷◌, ◌+◌, ◌&&◌, [], ℕ, Bool, true, false, List, nat_eq, nat_le}
+use Rattle.std.specs.Prelude.{◌≡◌, ◌++◌, ◌∷◌, ◌+◌, ◌&&◌, [], ℕ, Bool, true, false, nat_eq, nat_le}
 use Rattle.cal_base.specs.declared.identity.ClientId.{ClientId}
-use Rattle.message.specs.declared.message.Message.{Message}
 use Rattle.message.specs.declared.message.Message.TheVariants.{Flushed}
 use Rattle.token_kind.specs.declared.flush.Flush.{Flush}
 use Rattle.volume_edit.specs.Edit.{edited}
 use Rattle.volume_plan.specs.Flushing.{flush_of}
-use Rattle.cluster_law.specs.Asking.{was_told}
-use Rattle.cluster_law.specs.Removing.{has_removed}
 use Rattle.cluster_law.specs.ServerState.{ServerState, last_flush, uses_new_flush}
 use Rattle.server_desk.specs.Desk.{with_desk}
-use Rattle.server_draft.specs.Acts.{act_of, acts_of}
-use Rattle.server_draft.specs.Draft.{Grows}
-use Rattle.server_draft.specs.declared.act.Act.{Act}
+use Rattle.server_draft.specs.Acts.{act_of, acts_of, told_to}
 use Rattle.server_draft.specs.declared.act.Act.TheVariants.{Commits, Tells}
 use Rattle.server_draft.specs.declared.act.Commit.{Commit}
 use Rattle.server_draft.specs.declared.act.Deed.TheVariants.{Flushes}
@@ -51,11 +46,6 @@ pub record CommitsOne (client : ClientId) (flush : Flush) (old new : Draft) : Ty
   pub deed : commit.deed ≡ Flushes client flush
   pub acts : new.acts ≡ old.acts ++ Commits commit ∷ []
   pub law : (view : ℕ) → acts_of view new.acts ≡ act_of view (Commits commit) ∷ acts_of view old.acts
+  pub untold : (to : ℕ) → told_to to new.acts ≡ told_to to old.acts
   pub image : new.image ≡ edited old.image (flush_of old.image client flush)
   pub desk : LowersOnly old new
-
--- acts were put to others: they tell nothing but that a flush is on the disk, and remove nothing
-pub record TellsFlushedOnly (number : ℕ) (old new : List Act) : Type 0 where
-  pub grows : Grows old new
-  pub others : (view client : ℕ) (test : Message → Bool) → test (Flushed number) ≡ false → was_told client test (acts_of view new) ≡ was_told client test (acts_of view old)
-  pub removed : (view : ℕ) → has_removed (acts_of view new) ≡ has_removed (acts_of view old)

@@ -1,17 +1,18 @@
-ghost use Rattle.std.specs.Prelude.{◌≡◌, ◌<◌, ◌≤◌, ◌∷◌, [], ℕ, IsTrue, false, OnOk};
+ghost use Rattle.std.specs.Prelude.{◌≡◌, ◌<◌, ◌≤◌, ◌+◌, ◌∷◌, [], ℕ, IsTrue, false, OnOk};
 ghost use Rattle.cal_base.specs.Limits as limits;
 ghost use Rattle.message.specs.declared.message.Message.TheVariants.{Flush as FlushOf, Flushed};
 ghost use Rattle.token_kind.specs.Flush.{IsFlush};
 ghost use Rattle.token_kind.specs.declared.flush.Flush.{Flush as FlushRecord};
 ghost use Rattle.volume_edit.specs.Edit.{slot_at};
+ghost use Rattle.volume_names.specs.Named.{AreNamed};
 ghost use Rattle.cluster_law.specs.Asking.{is_flushed, was_told};
 ghost use Rattle.cluster_law.specs.Granting.{Took};
 ghost use Rattle.cluster_law.specs.ServerRules.{Occasion};
 ghost use Rattle.cluster_law.specs.ServerState.{ServerState, uses};
-ghost use Rattle.server_draft.specs.Acts.{act_of, acts_of};
-ghost use Rattle.server_draft.specs.Draft.{Follows};
+ghost use Rattle.server_draft.specs.Acts.{act_of, acts_of, told_to};
+ghost use Rattle.server_draft.specs.Draft.{Follows, TellsOnly};
 ghost use Rattle.server_draft.specs.declared.act.Act.TheVariants.{Tells};
-ghost use Rattle.server_flushes.specs.Flushes.{LowersOnly, TellsFlushedOnly, with_flushed};
+ghost use Rattle.server_flushes.specs.Flushes.{LowersOnly, with_flushed};
 
 use crate::committing::commit_flush;
 use crate::standing::{Standing, standing_of};
@@ -37,7 +38,9 @@ pub fn take_flush(
     ensures told { OnOk result ((view : ℕ) (o : Occasion) (start : ServerState) → Follows view o start draft.old → draft.old.acts ≡ [] → IsTrue (uses start client (FlushOf flush))
         → IsTrue (was_told client.0 is_flushed (acts_of view draft.new.acts))) }
     ensures passes { OnOk result ((view : ℕ) (o : Occasion) (start : ServerState) → Follows view o start draft.old → draft.old.acts ≡ [] → uses start client (FlushOf flush) ≡ false → draft.new ≡ draft.old) }
-    ensures acts { OnOk result (TellsFlushedOnly flush.number draft.old.acts draft.new.acts) }
+    ensures acts { OnOk result (TellsOnly (Flushed flush.number ∷ []) draft.old.acts draft.new.acts) }
+    ensures few { OnOk result ((to : ℕ) → told_to to draft.new.acts ≤ told_to to draft.old.acts + 1) }
+    ensures names { OnOk result (AreNamed draft.old.image → AreNamed draft.new.image) }
     ensures desk { OnOk result (LowersOnly draft.old draft.new) }
 {
     let number = flush.number;
@@ -57,6 +60,7 @@ fn tell_flushed(draft: &mut Draft, client: ClientId, number: u64) -> Result<(), 
     requires { client.0 < limits.clients }
     ensures state { OnOk result (draft.new ≡ with_flushed draft.old client number) }
     ensures acts { OnOk result ((view : ℕ) → acts_of view draft.new.acts ≡ act_of view (Tells client (Flushed number)) ∷ acts_of view draft.old.acts) }
+    ensures few { OnOk result ((to : ℕ) → told_to to draft.new.acts ≤ told_to to draft.old.acts + 1) }
     ensures told { OnOk result ((view : ℕ) → IsTrue (was_told client.0 is_flushed (acts_of view draft.new.acts))) }
     ensures follows { OnOk result ((view : ℕ) (o : Occasion) (start : ServerState) (flush : FlushRecord) → Follows view o start draft.old → Took o.took client (FlushOf flush) → flush.number ≡ number
         → number ≤ (slot_at draft.old.image.slots client.0).flush → was_told client.0 is_flushed (acts_of view draft.old.acts) ≡ false → Follows view o start draft.new) }

@@ -17,14 +17,6 @@ use Rattle.server_draft.proofs.Counting.{counted-one}
 use Rattle.server_reports.specs.Reports.{with_admit}
 use Rattle.server_reports.proofs.Asking.{next-is}
 
--- a message is at most one for a client
-pub one-at-most : (to : ℕ) (c : ClientId) (message : Message) (old new : List Act) → told_to to new ≡ told_to to old + tells to (Tells c message) → told_to to new ≤ told_to to old + 1
-one-at-most to c message old new count = by (nat_eq c.0 to) count
-  where
-    by : (b : Bool) → told_to to new ≡ told_to to old + (if b then 1 else 0) → told_to to new ≤ told_to to old + 1
-    by true is = omega (arith, is)
-    by false is = omega (arith, is)
-
 -- whether a client is to be asked yet, as a number
 abbrev pub left_to_ask : ℕ → Draft → ℕ
 left_to_ask to d = cond (is_to_ask (get_or d.desk.collecting.standings to Unlisted)) 1 0

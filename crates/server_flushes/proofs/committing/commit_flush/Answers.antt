@@ -22,6 +22,7 @@ returns-clause-commits c =
       deed = refl;
       acts = ap (λ (d : Draft). d.acts) state;
       law = c.in_ok-commit.ensures.acts;
+      untold = c.in_ok-commit.ensures.count;
       image = ap (λ (d : Draft). d.image) state ∙ ap (edited c.args.draft.now.image) c.in_ok-data.ensures.edit;
       desk = lowers-only c.args.draft.now c.commit.new.self c.lower_by_flush.new.self c.args.client c.args.flush c.lower_by_flush.ensures (ap (λ (d : Draft). d.desk) state);
     }

@@ -2,7 +2,7 @@ use Rattle.std.proofs.Common.{refl, sym, ◌∙◌}
 use Rattle.std.proofs.lemmas.Bool.{leb-true, true≢false}
 use Rattle.server_flushes.specs.Flushes.{knowing}
 use Rattle.server_flushes.proofs.Readings.{lasts, lasts-used, next-used, passed, start-uses}
-use Rattle.server_flushes.proofs.Tellings.{nothing-told, nothing-told-yet, counted}
+use Rattle.server_flushes.proofs.Tellings.{committed-named, counted, nothing-told, nothing-told-yet, told-named, told-then}
 use Rattle.server_flushes.proofs.flushing.take_flush.Goals as goal
 
 pub returns-in_ok-tell_flushed-in-Lasts-clause-follows : goal.returns-in_ok-tell_flushed-in-Lasts-clause-follows
@@ -33,3 +33,15 @@ pub returns-in-PassedOver-clause-told : goal.returns-in-PassedOver-clause-told
 returns-in-PassedOver-clause-told c view o start follows none used =
     let d = c.args.draft.now in
     absurd (true≢false (sym used ∙ start-uses view o start d follows c.args.client c.args.flush none ∙ passed (knowing d) c.args.client c.args.flush c.in-PassedOver.ensures.standing))
+
+pub returns-in_ok-tell_flushed-in-Lasts-clause-names : goal.returns-in_ok-tell_flushed-in-Lasts-clause-names
+returns-in_ok-tell_flushed-in-Lasts-clause-names c names = told-named c.args.draft.now c.tell_flushed.new.draft c.args.client c.args.flush.number c.in_ok-tell_flushed-in-Lasts.ensures.state names
+
+pub returns-in_ok-tell_flushed-in-Next-clause-few : goal.returns-in_ok-tell_flushed-in-Next-clause-few
+returns-in_ok-tell_flushed-in-Next-clause-few c to =
+    told-then c.args.client c.args.flush c.args.draft.now c.commit_flush.new.draft c.tell_flushed-in-Next.new.draft to c.in_ok-commit_flush-in-Next.ensures.commits (c.in_ok-tell_flushed-in-Next.ensures.few to)
+
+pub returns-in_ok-tell_flushed-in-Next-clause-names : goal.returns-in_ok-tell_flushed-in-Next-clause-names
+returns-in_ok-tell_flushed-in-Next-clause-names c names =
+    told-named c.commit_flush.new.draft c.tell_flushed-in-Next.new.draft c.args.client c.args.flush.number c.in_ok-tell_flushed-in-Next.ensures.state
+    (committed-named c.args.client c.args.flush c.args.draft.now c.commit_flush.new.draft c.in_ok-commit_flush-in-Next.ensures.commits c.in-Next.ensures.volume names)

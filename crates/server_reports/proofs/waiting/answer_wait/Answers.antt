@@ -2,7 +2,7 @@ use Rattle.std.proofs.Common.{refl, sym, ◌∙◌}
 use Rattle.message.specs.declared.message.Message.TheVariants.{Wait}
 use Rattle.server_draft.specs.Acts.{acts_of}
 use Rattle.server_draft.specs.Draft.{reached}
-use Rattle.server_reports.proofs.Counting.{one-at-most}
+use Rattle.server_draft.proofs.Counting.{one-at-most}
 use Rattle.server_reports.proofs.Putting.{law-misses, waits-well}
 use Rattle.server_reports.proofs.waiting.answer_wait.Goals as goal
 

@@ -3,3 +3,4 @@ mod Deserting
 mod MakingFinal
 mod AskingBack
 mod Resting
+mod Counting

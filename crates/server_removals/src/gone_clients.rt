@@ -1,13 +1,14 @@
-ghost use Rattle.std.specs.Prelude.{◌≡◌, ◌<◌, ◌&&◌, ℕ, Bool, IsTrue, IfSome, OnOk, Some, false};
+ghost use Rattle.std.specs.Prelude.{◌≡◌, ◌<◌, ◌≤◌, ◌&&◌, ℕ, Bool, IsTrue, IfSome, OnOk, Some, false, length};
 ghost use Rattle.cal_base.specs.Limits as limits;
 ghost use Rattle.message.specs.declared.message.Message.{Message};
 ghost use Rattle.volume_edit.specs.Edit.{edited};
 ghost use Rattle.volume_plan.specs.Plans.{purge_of};
+ghost use Rattle.volume_names.specs.Named.{AreNamed};
 ghost use Rattle.cluster_law.specs.Asking.{was_told};
 ghost use Rattle.cluster_law.specs.Removing.{HasDone, due, has_removed};
 ghost use Rattle.cluster_law.specs.ServerRules.{IsPurgeOf, Occasion};
 ghost use Rattle.cluster_law.specs.ServerState.{ServerState, is_present};
-ghost use Rattle.server_draft.specs.Acts.{acts_of};
+ghost use Rattle.server_draft.specs.Acts.{acts_of, told_to};
 ghost use Rattle.server_draft.specs.Draft.{Follows, Grows, reached};
 ghost use Rattle.server_draft.specs.declared.act.Deed.TheVariants.{Purges};
 ghost use Rattle.server_removals.specs.Removals.{Does, gone_in};
@@ -56,6 +57,9 @@ pub fn purge(alloc: Global, draft: &mut Draft, client: ClientId) -> Result<(), O
     ensures done { OnOk result ((view : ℕ) → HasDone (IsPurgeOf client) (acts_of view draft.new.acts)) }
     ensures does { OnOk result (Does (Purges client) draft.old.acts draft.new.acts) }
     ensures told { OnOk result ((view client : ℕ) (test : Message → Bool) → was_told client test (acts_of view draft.new.acts) ≡ was_told client test (acts_of view draft.old.acts)) }
+    ensures few { OnOk result ((to : ℕ) → told_to to draft.new.acts ≡ told_to to draft.old.acts) }
+    ensures requests { OnOk result (length draft.new.desk.requests ≤ length draft.old.desk.requests) }
+    ensures names { OnOk result (AreNamed draft.old.image → AreNamed draft.new.image) }
     ensures grows { OnOk result (Grows draft.old.acts draft.new.acts) }
     ensures image { OnOk result (draft.new.image ≡ edited draft.old.image (purge_of draft.old.image client)) }
 {

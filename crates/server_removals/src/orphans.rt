@@ -1,4 +1,4 @@
-ghost use Rattle.std.specs.Prelude.{◌≡◌, ◌<◌, ◌∷◌, [], ℕ, Bool, true, false, IsTrue, IfSome, OnOk, Some, None};
+ghost use Rattle.std.specs.Prelude.{◌≡◌, ◌<◌, ◌≤◌, ◌+◌, ◌∷◌, [], ℕ, Bool, true, false, IsTrue, IfSome, OnOk, Some, None};
 ghost use Rattle.cal_base.specs.Limits as limits;
 ghost use Rattle.image.specs.Image.{is_orphan};
 ghost use Rattle.message.specs.declared.message.Message.{Message};
@@ -7,16 +7,17 @@ ghost use Rattle.token_kind.specs.declared.«class».Class.TheVariants.{Attr, Da
 ghost use Rattle.token_kind.specs.declared.revoke.Revoke.{Revoke};
 ghost use Rattle.token_table.specs.Blockers.{touchers_of};
 ghost use Rattle.volume_edit.specs.Edit.{inode_at};
+ghost use Rattle.volume_names.specs.Named.{AreNamed};
 ghost use Rattle.cluster_law.specs.Asking.{deserted, holders_of, next_revoke, was_told};
 ghost use Rattle.cluster_law.specs.Removing.{HasDone, due, has_removed};
 ghost use Rattle.cluster_law.specs.ServerRules.{DealsWithOrphan, FreesOrAsks, IsReapOf, Occasion};
 ghost use Rattle.cluster_law.specs.ServerState.{ServerState, is_admitted};
-ghost use Rattle.server_draft.specs.Acts.{acts_of};
+ghost use Rattle.server_draft.specs.Acts.{acts_of, told_to};
 ghost use Rattle.server_draft.specs.Draft.{Follows, Grows, reached};
 ghost use Rattle.server_removals.specs.Removals.{LooksAtOrphans, at_desk};
 
 use crate::holders::is_held_by_some;
-use cal_base::{Ino, Items, Oom};
+use cal_base::{CLIENTS, Ino, Items, Oom};
 use image::{EditPlan, Image};
 use server_desk::Desk;
 use server_draft::{Commit, Deed, Draft};
@@ -34,6 +35,8 @@ pub fn deal_with_orphan(alloc: Global, draft: &mut Draft) -> Result<(), Oom>
     ensures standings { OnOk result (draft.new.desk.collecting ≡ draft.old.desk.collecting) }
     ensures requests { OnOk result (draft.new.desk.requests ≡ draft.old.desk.requests) }
     ensures told { OnOk result ((view client : ℕ) (test : Message → Bool) → ((revoke : Revoke) → test (AsksBack revoke) ≡ false) → was_told client test (acts_of view draft.new.acts) ≡ was_told client test (acts_of view draft.old.acts)) }
+    ensures few { OnOk result ((to : ℕ) → told_to to draft.new.acts ≤ told_to to draft.old.acts + limits.inodes) }
+    ensures names { OnOk result (AreNamed draft.old.image → AreNamed draft.new.image) }
     ensures grows { OnOk result (Grows draft.old.acts draft.new.acts) }
 {
     match least_deserted(&draft.desk, &draft.image) {
@@ -72,6 +75,8 @@ fn free_or_ask(alloc: Global, draft: &mut Draft, ino: Ino) -> Result<(), Oom>
     ensures standings { OnOk result (draft.new.desk.collecting ≡ draft.old.desk.collecting) }
     ensures requests { OnOk result (draft.new.desk.requests ≡ draft.old.desk.requests) }
     ensures told { OnOk result ((view client : ℕ) (test : Message → Bool) → ((revoke : Revoke) → test (AsksBack revoke) ≡ false) → was_told client test (acts_of view draft.new.acts) ≡ was_told client test (acts_of view draft.old.acts)) }
+    ensures few { OnOk result ((to : ℕ) → told_to to draft.new.acts ≤ told_to to draft.old.acts + limits.inodes) }
+    ensures names { OnOk result (AreNamed draft.old.image → AreNamed draft.new.image) }
     ensures grows { OnOk result (Grows draft.old.acts draft.new.acts) }
 {
     let holders = draft
@@ -95,9 +100,12 @@ fn reap(alloc: Global, draft: &mut Draft, ino: Ino) -> Result<(), Oom>
         → holders_of (reached view start draft.old) (Some ino) ≡ [] → has_removed (acts_of view draft.old.acts) ≡ false → Follows view o start draft.new) }
     ensures done { OnOk result ((view : ℕ) → HasDone (IsReapOf ino) (acts_of view draft.new.acts)) }
     ensures told { OnOk result ((view client : ℕ) (test : Message → Bool) → was_told client test (acts_of view draft.new.acts) ≡ was_told client test (acts_of view draft.old.acts)) }
+    ensures few { OnOk result ((to : ℕ) → told_to to draft.new.acts ≡ told_to to draft.old.acts) }
+    ensures names { OnOk result (AreNamed draft.old.image → AreNamed draft.new.image) }
     ensures grows { OnOk result (Grows draft.old.acts draft.new.acts) }
     ensures desk { OnOk result (draft.new.desk ≡ draft.old.desk) }
 {
+    prove!(draft.image.clients() <= CLIENTS);
     let EditPlan { edit, txn } = draft.image.plan_reap(alloc, ino)?;
     draft.commit(Commit {
         deed: Deed::Reaps(ino),
@@ -117,6 +125,8 @@ fn ask(draft: &mut Draft, ino: Ino, holders: &[Blocker]) -> Result<(), Oom>
     ensures asks { OnOk result ((view : ℕ) (o : Occasion) (start : ServerState) → Follows view o start draft.old → next_revoke (reached view start draft.new) (holders_of (reached view start draft.old) (Some ino)) ≡ None) }
     ensures desk { OnOk result (draft.new.desk ≡ record draft.old.desk { asked = draft.new.desk.asked }) }
     ensures told { OnOk result ((view client : ℕ) (test : Message → Bool) → ((revoke : Revoke) → test (AsksBack revoke) ≡ false) → was_told client test (acts_of view draft.new.acts) ≡ was_told client test (acts_of view draft.old.acts)) }
+    ensures image { OnOk result (draft.new.image ≡ draft.old.image) }
+    ensures few { OnOk result ((to : ℕ) → told_to to draft.new.acts ≤ told_to to draft.old.acts + limits.inodes) }
     ensures grows { OnOk result (Grows draft.old.acts draft.new.acts) }
 {
     draft.revoke(holders)?;

@@ -4,6 +4,7 @@ use Rattle.token_table.specs.Table.{Table}
 use Rattle.server_draft.specs.Acts.{acts_of}
 use Rattle.server_draft.specs.Draft.{reached}
 use Rattle.server_removals.proofs.AskingBack.{asks-at-start, frees-at-start, nobody-holds, none-removed, touched}
+use Rattle.server_removals.proofs.Counting.{left-named, none-few}
 use Rattle.server_removals.proofs.orphans.free_or_ask.Goals as goal
 
 pub returns-then-is_empty-clause-follows : goal.returns-then-is_empty-clause-follows
@@ -29,3 +30,9 @@ returns-clause-deals c = λ view o start follows none.
     let are = c.in_ok-holders.ensures ∙ ap (λ (t : Table). touchers_of t (touched c.args.ino)) c.table.ensures in
     asks-at-start view start old.acts (reached view start new) (acts_of view new.acts) old.desk c.args.ino c.in_ok-holders.holders are (sym c.is_empty.ensures ∙ c.if-is_empty.false) follows.like none
     (c.in_ok-ask.ensures.asks view o start follows)
+
+pub returns-then-is_empty-clause-few : goal.returns-then-is_empty-clause-few
+returns-then-is_empty-clause-few c to = none-few to c.args.draft.now.acts c.reap.new.draft.acts (c.in_ok-reap.ensures.few to)
+
+pub returns-clause-names : goal.returns-clause-names
+returns-clause-names c names = left-named c.args.draft.now c.ask.new.draft c.in_ok-ask.ensures.image names

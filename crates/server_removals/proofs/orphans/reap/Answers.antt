@@ -1,8 +1,10 @@
-use Rattle.std.proofs.Common.{refl, subst}
+use Rattle.std.proofs.Common.{ap, refl, subst}
 use Rattle.volume.specs.Volume.{Volume}
 use Rattle.volume_edit.specs.Homes.{AreHomes}
 use Rattle.server_draft.specs.Acts.{acts_of}
 use Rattle.server_draft.specs.Draft.{reached}
+use Rattle.server_draft.specs.declared.draft.Draft.{Draft}
+use Rattle.server_removals.proofs.Counting.{freed-named}
 use Rattle.server_removals.proofs.MakingFinal.{freed-space, frees-well}
 use Rattle.server_removals.proofs.orphans.reap.Goals as goal
 
@@ -16,3 +18,7 @@ returns-clause-follows c = λ view o start follows looks least unheld alone.
     (freed-space server c.args.ino c.new.result plan.edit plan.txn edit follows.space)
     (frees-well o start server (acts_of view old.acts) c.args.ino c.new.result plan.edit plan.txn looks least unheld alone c.new.ensures edit
     (subst (λ (v : Volume). AreHomes v plan.edit plan.txn) follows.volume c.in_ok-edit.ensures.homes) follows.space)
+
+pub returns-clause-names : goal.returns-clause-names
+returns-clause-names c names =
+    freed-named c.args.draft.now c.commit.new.self c.args.ino c.in_ok-edit.field-0.edit c.clients.ensures.volume c.requires.orphan (ap (λ (d : Draft). d.image) c.in_ok-commit.ensures.state) c.in_ok-edit.ensures.edit names

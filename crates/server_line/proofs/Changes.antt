@@ -1,7 +1,7 @@
 -- A change at the head of the line: answered again, dropped, carried out, or blocked.
 use Rattle.std.proofs.Common.{◌≡◌, ◌==◌, ◌≤◌, ◌<◌, ◌+◌, ◌++◌, ◌∷◌, [], ℕ, nat_le, nat_lt, List, Bool, true, false, Option, Some, None, IsTrue, drop, map, if◌then◌else◌, refl, sym, ap, subst, ◌∙◌, arith, rules}
-use Rattle.std.specs.Prelude.{◌↔◌, is_none}
-use Rattle.std.specs.List.{All, Contains}
+use Rattle.std.specs.Prelude.{is_none}
+use Rattle.std.specs.List.{All}
 use Rattle.std.proofs.lemmas.List.{append-nil}
 use Rattle.std.proofs.lemmas.List.Elements.{All-contains, All-map}
 use Rattle.cal_base.specs.declared.identity.ClientId.{ClientId}
@@ -23,8 +23,8 @@ use Rattle.token_kind.specs.declared.block.Block.{Block}
 use Rattle.token_kind.specs.declared.blocker.Blocker.{Blocker}
 use Rattle.token_kind.specs.declared.«class».Class.{Class}
 use Rattle.token_kind.specs.declared.«class».Class.TheVariants.{Names, Data, Attr, Open}
-use Rattle.token_table.specs.Blockers.{IsOpened, touchers_of}
-use Rattle.token_table.specs.Table.{IsTable, Table}
+use Rattle.token_table.specs.Blockers.{touchers_of}
+use Rattle.token_table.specs.Table.{IsTable}
 use Rattle.tree_law.specs.Rename.{is_directory}
 use Rattle.tree_law.specs.Tree.{node_at}
 use Rattle.tree_law.specs.declared.call.Call.{Call}
@@ -32,9 +32,8 @@ use Rattle.tree_law.specs.declared.reply.Reply.{Reply}
 use Rattle.tree_law.specs.declared.request.Asked.TheVariants.{Change as Alters}
 use Rattle.volume.specs.Volume.{Volume}
 use Rattle.volume_edit.specs.Edit.{slot_at}
-use Rattle.volume_plan.specs.Plans.{Plan, free_count, plan}
+use Rattle.volume_plan.specs.Plans.{Plan, free_count, is_opened, plan}
 use Rattle.volume_plan.specs.Shown.{shown}
-use Rattle.volume_plan.proofs.OpenFiles.{same_members, same_plan}
 use Rattle.cluster_law.specs.Blocking as law
 use Rattle.cluster_law.specs.Lanes as lanes
 use Rattle.cluster_law.specs.ServerRules.{ActsWell, Occasion}
@@ -47,15 +46,15 @@ use Rattle.server_draft.specs.Draft.{Follows, HasSpace, IsWithin, reached}
 use Rattle.server_draft.specs.declared.act.Act.TheVariants.{Tells, Drops}
 use Rattle.server_draft.specs.declared.draft.Draft.{Draft}
 use Rattle.server_line.specs.Blocked.{AreBlockers, CanBeAsked}
-use Rattle.server_line.specs.Changed.{IsPlanned}
+use Rattle.server_line.specs.Changed.{IsPlanned, unnamed_by}
 use Rattle.server_line.specs.Known.{HasHead, IsHead, known}
 use Rattle.volume_names.specs.Named.{AreNamed}
 use Rattle.server_line.specs.Served.{IsAnswer, ReadNothing, Serves}
 use Rattle.server_line.specs.declared.resting.Blockers.{Blockers}
+use Rattle.server_line.proofs.Asking.{plan-alone}
 use Rattle.server_line.proofs.Counting.{has-head, head-gone, one-more}
 use Rattle.server_line.proofs.Gaps.{touchers-within}
 use Rattle.server_line.proofs.Going.{alike-known, answer-quiet, answer-reads, answer-tells, keeps-one, well-reached}
-use Rattle.server_line.proofs.Opened.{opened-same}
 use Rattle.server_line.proofs.Touches.{plan-fits}
 
 -- a server is admitted where none is missing
@@ -162,13 +161,11 @@ kept-by s n reply e = by (n == s.call) refl (nat_lt n s.call) e
     by false f false g = absurd (cc)
 
 -- the plan is the law's
-pub plan-is : (draft : Draft) (client : ClientId) (number : ℕ) (call : Call) (p : Plan) (opened listed : List Ino) (table : Table) → table ≡ draft.desk.collecting.table → IsTable draft.desk.collecting.table → opened ≡ listed
-    → ((ino : Ino) → Contains listed ino ↔ IsOpened table ino) → p ≡ plan draft.image client number call opened → p ≡ law.planned (known draft []) client number call
-plan-is draft client number call p opened listed table named is read members e =
-    e ∙ ap (plan draft.image client number call) read
-    ∙ same_plan draft.image client number call listed (law.opened_files (known draft []))
-    (λ ino. same_members listed (law.opened_files (known draft [])) ino
-    (opened-same draft.desk.collecting.table is listed (subst (λ (t : Table). (ino : Ino) → Contains listed ino ↔ IsOpened t ino) named members) ino))
+pub plan-is : (draft : Draft) (client : ClientId) (number : ℕ) (call : Call) (p : Plan) (opened listed : List Ino) → opened ≡ listed
+    → ((ino : Ino) → unnamed_by draft.image call ≡ Some ino → is_opened listed ino ≡ is_opened (law.opened_files (known draft [])) ino)
+    → p ≡ plan draft.image client number call opened → p ≡ law.planned (known draft []) client number call
+plan-is draft client number call p opened listed read alike e =
+    e ∙ ap (plan draft.image client number call) read ∙ plan-alone draft.image client number call listed (law.opened_files (known draft [])) alike
 
 -- touches by the numbers of their classes
 touch-again : (touch : Ino × Class) → touch_of (touch.0, class_number touch.1) ≡ touch

@@ -1,4 +1,5 @@
 pub mod Asked
+pub mod Asking
 pub mod Changes
 pub mod Committed
 pub mod Contents

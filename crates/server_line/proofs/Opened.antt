@@ -1,6 +1,5 @@
 -- The files that the table has open, and those that the law names so.
 use Rattle.std.proofs.Common.{◌≡◌, ◌≢◌, ◌<◌, ◌++◌, ◌∷◌, ◌⊎◌, inl, inr, [], ℕ, zero, suc, List, Bool, true, false, filter, cond, nat_eq, refl, sym, ap, subst, ◌∙◌, arith, rules}
-use Rattle.std.specs.Prelude.{◌↔◌}
 use Rattle.std.specs.List.{Contains}
 use Rattle.std.proofs.lemmas.List.Elements.{All-contains, Contains-append_cases, Contains-append_left, Contains-append_right, Contains-get_or, Contains-push, Contains-push_cases, filter_passes}
 use Rattle.std.proofs.lemmas.List.Folds.{Any-from_list_any, list_any-from_Any}
@@ -9,6 +8,8 @@ use Rattle.cal_base.specs.declared.identity.Ino.{Ino}
 use Rattle.token_kind.specs.declared.«class».Class.TheVariants.{Open}
 use Rattle.token_table.specs.Blockers.{IsOpened, clients_below, has_open}
 use Rattle.token_table.specs.Table.{IsTable, Table}
+use Rattle.volume_plan.specs.Plans.{is_opened}
+use Rattle.volume_plan.proofs.OpenFiles.{same_members}
 use Rattle.cluster_law.specs.Blocking.{is_open_by_some}
 use Rattle.cluster_law.specs.Lists.{inodes_below}
 
@@ -63,6 +64,13 @@ is-open t ino among =
     let any = Any-from_list_any (has_open t ino) (clients_below 16) some in
     (any.1, any.4)
 
--- the files that the table lists as open are those that the law names so
-pub opened-same : (t : Table) → IsTable t → (listed : List Ino) → ((ino : Ino) → Contains listed ino ↔ IsOpened t ino) → (ino : Ino) → Contains listed ino ↔ Contains (filter (is_open_by_some t) (inodes_below 512)) ino
-opened-same t table listed members ino = (λ c. open-is t table ino ((members ino).0 c), λ c. (members ino).1 (is-open t ino c))
+-- a list of an inode alone, or of none, tells of it what the law's list does
+pub opened-alone : (t : Table) → IsTable t → (ino : Ino) (none opened : List Ino) → none ≡ [] → opened ≡ none ++ ino ∷ [] → IsOpened t ino → is_opened opened ino ≡ is_opened (filter (is_open_by_some t) (inodes_below 512)) ino
+opened-alone t table ino none opened empty is held =
+    ap (λ (l : List Ino). is_opened l ino) (is ∙ ap (λ (l : List Ino). l ++ ino ∷ []) empty)
+    ∙ same_members (ino ∷ []) (filter (is_open_by_some t) (inodes_below 512)) ino ((λ c. open-is t table ino held), (λ c. Contains-push [] ino))
+
+pub not-opened : (t : Table) (ino : Ino) (opened : List Ino) → opened ≡ [] → (IsOpened t ino → ⊥) → is_opened opened ino ≡ is_opened (filter (is_open_by_some t) (inodes_below 512)) ino
+not-opened t ino opened is closed =
+    ap (λ (l : List Ino). is_opened l ino) is
+    ∙ same_members [] (filter (is_open_by_some t) (inodes_below 512)) ino ((λ c. absurd (none-in ino c)), (λ c. absurd (closed (is-open t ino c))))

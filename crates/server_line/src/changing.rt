@@ -17,6 +17,7 @@ ghost use Rattle.server_line.specs.Known.{HasHead, IsHead, known};
 ghost use Rattle.server_line.specs.Served.{Goes, IsAnswer, Serves};
 
 use crate::resting::{Blockers, is_free, or_space, rest, table_of};
+use crate::unnaming::opened_for;
 use cal_base::{CLIENTS, ClientId, Items, Oom};
 use image::{Image, Planned};
 use message::Message;
@@ -101,7 +102,7 @@ fn plan(
     ensures { IfOk result (IsPlanned draft.now client number call.now) }
 {
     prove!(draft.image.clients() <= CLIENTS);
-    let opened = table_of(draft).opened()?;
+    let opened = opened_for(alloc, draft, call)?;
     let planned = draft
         .image
         .plan_change(alloc, client, number, call, opened.as_slice())?;

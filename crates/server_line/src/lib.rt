@@ -20,6 +20,7 @@ mod needing;
 mod resting;
 mod serving;
 mod stopping;
+mod unnaming;
 
 pub use serving::serve_line;
 pub use stopping::ServeError;

@@ -1,5 +1,5 @@
 -- A flush is committed as the law asks.
-use Rattle.std.proofs.Common.{◌≡◌, ◌<◌, ◌≤◌, ◌+◌, ◌∷◌, [], ℕ, true, List, All, length, ap, refl, subst, sym, ◌∙◌, arith}
+use Rattle.std.proofs.Common.{◌≡◌, ◌<◌, ◌≤◌, ◌+◌, ◌∷◌, [], ℕ, true, List, All, length, ap, subst, sym, ◌∙◌, arith}
 use Rattle.std.proofs.lemmas.List.Elements.{All-cons, All-nil}
 use Rattle.std.proofs.lemmas.Option.{slice_get_within}
 use Rattle.cal_base.specs.Limits as limits
@@ -20,7 +20,7 @@ use Rattle.cluster_law.specs.Blocking.{reserved}
 use Rattle.cluster_law.specs.Granting.{Took}
 use Rattle.cluster_law.specs.ServerRules.{ActsWell, Occasion}
 use Rattle.cluster_law.specs.ServerState.{ServerState, after_act, left_by, lowering}
-use Rattle.server_book.proofs.SameTables.{same-refl}
+use Rattle.server_book.proofs.Moving.{alike-refl}
 use Rattle.server_desk.specs.Desk.{DeskValue, IsLike, with_desk}
 use Rattle.server_draft.specs.Acts.{act_of, acts_of}
 use Rattle.server_draft.specs.Draft.{Follows, HasSpace, reached}
@@ -40,14 +40,10 @@ within-the-disk v (write ∷ writes) map goes =
     let at = goes.0.sector in
     All-cons (λ lay. lay.0 < limits.sectors) write writes (omega arith) (within-the-disk v writes map goes.1)
 
--- a server that knows just what a desk does is like it
-like-itself : (desk : DeskValue) (v : Volume) → IsLike desk (with_desk desk v [])
-like-itself desk v = record { standing = refl; table = same-refl desk.collecting.table; requests = refl; asked = λ q. refl; volume = refl; sectors = refl }
-
 -- a desk on which holds are lowered has the same requests, and clients stand the same on it
 pub lowers-only : (old new : Draft) (desk : DeskValue) (client : ClientId) (flush : Flush) → ((server : ServerState) → IsLike old.desk server → IsLike desk (lowering server client flush.ino (left_by flush))) → new.desk ≡ desk → LowersOnly old new
 lowers-only old new desk client flush lowers is =
-    let like = lowers (with_desk old.desk old.image []) (like-itself old.desk old.image) in
+    let like = lowers (with_desk old.desk old.image []) (alike-refl (with_desk old.desk old.image [])) in
     record {
       requests = ap (λ (d : DeskValue). d.requests) is ∙ like.requests;
       window = ap (λ (d : DeskValue). d.collecting.window) is ∙ ap (λ c. c.window) like.standing;

@@ -1,4 +1,5 @@
 mod Begun
+mod Counting
 mod Owing
 mod Paying
 mod Used

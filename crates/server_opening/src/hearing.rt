@@ -4,7 +4,6 @@ ghost use Rattle.message.specs.Range.{IsMessage, IsPiece, IsWant};
 ghost use Rattle.message.specs.declared.message.Message.TheVariants.{Acquire, Piece as PieceOf};
 ghost use Rattle.rebuild.specs.Collecting.{missing_of};
 ghost use Rattle.revocation.specs.Waiting.{IsRequest};
-ghost use Rattle.token_table.specs.Table.{IsTable};
 ghost use Rattle.cluster_law.specs.ServerState.{ServerState, arriving, as_request, hearing, uses_want};
 ghost use Rattle.server_desk.specs.Desk.{IsLike, with_desk};
 ghost use Rattle.server_opening.specs.Owed.{owed_for, owed_request};
@@ -129,17 +128,10 @@ fn hear_piece(desk: &mut Desk, image: &Image, client: ClientId, piece: &Piece) -
     requires piece { IsPiece piece.now }
     ensures { OnOk result ((server : ServerState) → IsLike desk.old server → image.now ≡ server.volume → IsLike desk.new (hearing server client (PieceOf piece.now))) }
 {
-    look(desk);
+    prove!(desk.table().held(ClientId(0), Ino::ROOT, Class::Names) != Hold::Write);
     let slot = image.slot(client);
     if desk.fits(client, piece, slot) {
         desk.take_piece(client, piece, slot)?;
     }
     Ok(())
-}
-
-/// Looks at the table of holds: it is one, whatever it shows.
-fn look(desk: &Desk) -> Hold
-    ensures { IsTable desk.now.collecting.table }
-{
-    desk.table().held(ClientId(0), Ino::ROOT, Class::Names)
 }

@@ -1,13 +1,14 @@
-ghost use Rattle.std.specs.Prelude.{◌≡◌, ◌<◌, [], ℕ, false, None as Missing, IfOk, IfSome, IsTrue, OnOk};
+ghost use Rattle.std.specs.Prelude.{◌≡◌, ◌<◌, ◌≤◌, ◌+◌, [], ℕ, false, length, None as Missing, IfOk, IfSome, IsTrue, OnOk};
 ghost use Rattle.cal_base.specs.Limits as limits;
 ghost use Rattle.message.specs.Range.{IsMessage};
+ghost use Rattle.volume_names.specs.Named.{AreNamed};
 ghost use Rattle.cluster_law.specs.Asking.{deserted};
 ghost use Rattle.cluster_law.specs.Removing.{due};
 ghost use Rattle.cluster_law.specs.ServerRules.{DealsWithOrphan, Occasion, Removes};
 ghost use Rattle.cluster_law.specs.ServerState.{ServerState, is_admitted};
 ghost use Rattle.server_removals.specs.Removals.{gone_in};
 ghost use Rattle.server_draft.specs.Acts.{acts_of};
-ghost use Rattle.server_draft.specs.Draft.{Follows, reached};
+ghost use Rattle.server_draft.specs.Draft.{Follows, reached, told_or_waiting};
 ghost use Rattle.server_reports.specs.Reports.{HasAdmittedNobody};
 ghost use Rattle.server_opening.specs.Opens.{CanCome, GoesOut, Opens, begun, occasion, taken_of};
 ghost use Rattle.server_opening.specs.Owed.{IsOwedFor, IsPaid, MayBeOwed};
@@ -46,8 +47,10 @@ pub fn open_step(
     coming: Coming,
 ) -> Result<Draft, Oom>
     requires { CanCome coming }
-    ensures { IfOk result (λ draft. (view : ℕ) (server : ServerState) → GoesOut view server desk image coming
+    ensures opens { IfOk result (λ draft. (view : ℕ) (server : ServerState) → GoesOut view server desk image coming
         → Opens view (occasion view members.now (is_admitted server) coming) (begun view server coming) draft) }
+    ensures few { IfOk result (λ draft. (to : ℕ) → told_or_waiting to draft ≤ length desk.requests + limits.inodes + 1) }
+    ensures names { IfOk result (λ draft. AreNamed image → AreNamed draft.image) }
 {
     match coming {
         Coming::Nothing => Ok(Draft::new(alloc, desk, image)),
@@ -72,8 +75,10 @@ fn answer(
 ) -> Result<Draft, Oom>
     requires client { client.0 < limits.clients }
     requires message { IsMessage message }
-    ensures { IfOk result (λ draft. (view : ℕ) (o : Occasion) (server : ServerState) → GoesOut view server desk image (Comes client message) → o.took ≡ taken_of view (Comes client message) → o.tick ≡ false
+    ensures opens { IfOk result (λ draft. (view : ℕ) (o : Occasion) (server : ServerState) → GoesOut view server desk image (Comes client message) → o.took ≡ taken_of view (Comes client message) → o.tick ≡ false
         → Opens view o (begun view server (Comes client message)) draft) }
+    ensures few { IfOk result (λ draft. (to : ℕ) → told_or_waiting to draft ≤ length desk.requests + 2) }
+    ensures names { IfOk result (λ draft. AreNamed image → AreNamed draft.image) }
 {
     let mut desk = desk;
     let owed = hear(&mut desk, &image, client, message)?;
@@ -89,6 +94,8 @@ fn pay(alloc: Global, draft: &mut Draft, client: ClientId, owed: Owed) -> Result
     ensures follows { OnOk result ((view : ℕ) (o : Occasion) (start : ServerState) → Follows view o start draft.old → draft.old.acts ≡ [] → IsOwedFor o.took client owed → Follows view o start draft.new) }
     ensures paid { OnOk result ((view : ℕ) (o : Occasion) (start : ServerState) → Follows view o start draft.old → draft.old.acts ≡ [] → IsPaid draft.old.desk start client owed (acts_of view draft.new.acts)) }
     ensures nobody { OnOk result ((view : ℕ) → draft.old.acts ≡ [] → HasAdmittedNobody view draft.new.acts) }
+    ensures few { OnOk result ((to : ℕ) → told_or_waiting to draft.new ≤ told_or_waiting to draft.old + 1) }
+    ensures names { OnOk result (AreNamed draft.old.image → AreNamed draft.new.image) }
 {
     match owed {
         Owed::Nothing => Ok(()),
@@ -105,8 +112,10 @@ fn pay(alloc: Global, draft: &mut Draft, client: ClientId, owed: Owed) -> Result
 
 /// What a tick removes: the client that is due, or else, where the server is admitted, an orphan that nobody uses.
 fn remove(alloc: Global, desk: Desk, image: Image, members: &Members) -> Result<Draft, Oom>
-    ensures { IfOk result (λ draft. (view : ℕ) (o : Occasion) (server : ServerState) → GoesOut view server desk image Tick → o.took ≡ Missing → o.gone ≡ gone_in members.now → IsTrue o.tick
+    ensures opens { IfOk result (λ draft. (view : ℕ) (o : Occasion) (server : ServerState) → GoesOut view server desk image Tick → o.took ≡ Missing → o.gone ≡ gone_in members.now → IsTrue o.tick
         → Opens view o server draft) }
+    ensures few { IfOk result (λ draft. (to : ℕ) → told_or_waiting to draft ≤ length desk.requests + limits.inodes) }
+    ensures names { IfOk result (λ draft. AreNamed image → AreNamed draft.image) }
 {
     let gone = least_due(&image, members);
     let mut draft = Draft::new(alloc, desk, image);
@@ -120,6 +129,8 @@ fn remove_one(alloc: Global, draft: &mut Draft, gone: Option<ClientId>) -> Resul
     ensures follows { OnOk result ((view : ℕ) (o : Occasion) (start : ServerState) → Follows view o start draft.old → draft.old.acts ≡ [] → gone ≡ due o.gone start → IsTrue o.tick → Follows view o start draft.new) }
     ensures removed { OnOk result ((view : ℕ) (o : Occasion) (start : ServerState) → Follows view o start draft.old → draft.old.acts ≡ [] → gone ≡ due o.gone start → Removes start (reached view start draft.new) (acts_of view draft.new.acts) (due o.gone start)) }
     ensures nobody { OnOk result ((view : ℕ) → draft.old.acts ≡ [] → HasAdmittedNobody view draft.new.acts) }
+    ensures few { OnOk result ((to : ℕ) → told_or_waiting to draft.new ≤ told_or_waiting to draft.old + limits.inodes) }
+    ensures names { OnOk result (AreNamed draft.old.image → AreNamed draft.new.image) }
 {
     match gone {
         Some(client) => {
@@ -138,6 +149,8 @@ fn deal_if_admitted(alloc: Global, draft: &mut Draft) -> Result<(), Oom>
     ensures follows { OnOk result ((view : ℕ) (o : Occasion) (start : ServerState) → Follows view o start draft.old → draft.old.acts ≡ [] → due o.gone start ≡ Missing → IsTrue o.tick → Follows view o start draft.new) }
     ensures deals { OnOk result ((view : ℕ) (o : Occasion) (start : ServerState) → Follows view o start draft.old → draft.old.acts ≡ [] → IsTrue (is_admitted start) → DealsWithOrphan start (reached view start draft.new) (acts_of view draft.new.acts) (deserted start)) }
     ensures nobody { OnOk result ((view : ℕ) → draft.old.acts ≡ [] → HasAdmittedNobody view draft.new.acts) }
+    ensures few { OnOk result ((to : ℕ) → told_or_waiting to draft.new ≤ told_or_waiting to draft.old + limits.inodes) }
+    ensures names { OnOk result (AreNamed draft.old.image → AreNamed draft.new.image) }
 {
     match draft.desk.missing() {
         None => {

@@ -17,21 +17,17 @@ use Rattle.volume_plan.specs.Plans.{purge_of, reap_of}
 use Rattle.volume_names.specs.Named.{AreNamed}
 use Rattle.volume_names.proofs.Plans.{alone_named, reap_named}
 use Rattle.cluster_law.specs.ServerState.{ServerState, purging}
-use Rattle.server_book.proofs.SameTables.{same-refl}
+use Rattle.server_book.proofs.Moving.{alike-refl}
 use Rattle.server_desk.specs.Desk.{DeskValue, IsLike, with_desk}
 use Rattle.server_draft.specs.Acts.{told_to}
 use Rattle.server_draft.specs.declared.act.Act.{Act}
 use Rattle.server_draft.specs.declared.draft.Draft.{Draft}
 
--- a server that knows just what a desk does is like it
-like-itself : (desk : DeskValue) (v : Volume) → IsLike desk (with_desk desk v [])
-like-itself desk v = record { standing = refl; table = same-refl desk.collecting.table; requests = refl; asked = λ q. refl; volume = refl; sectors = refl }
-
 -- a purge takes requests away, and puts none
 pub requests-fewer : (old new : Draft) (desk : DeskValue) (client : ClientId) → ((server : ServerState) → IsLike old.desk server → IsLike desk (purging server client)) → new.desk ≡ desk
     → length new.desk.requests ≤ length old.desk.requests
 requests-fewer old new desk client purges is =
-    let like = purges (with_desk old.desk old.image []) (like-itself old.desk old.image) in
+    let like = purges (with_desk old.desk old.image []) (alike-refl (with_desk old.desk old.image [])) in
     let same = ap (λ (d : DeskValue). length d.requests) is ∙ ap (λ (requests : List Request). length requests) like.requests in
     let both = length-filter_both (λ (r : Request). same_client client r.client) (λ (r : Request). not (same_client client r.client)) (λ r. refl) old.desk.requests in
     omega (arith, same, both)

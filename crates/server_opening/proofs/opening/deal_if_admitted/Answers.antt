@@ -2,6 +2,8 @@ use Rattle.std.proofs.Common.{sym, refl, ap, ◌∙◌, true≢false, is_none}
 use Rattle.cluster_law.specs.Asking.{is_admit}
 use Rattle.cluster_law.specs.Removing.{due}
 use Rattle.cluster_law.specs.ServerState.{ServerState, is_admitted}
+use Rattle.cal_base.specs.Limits as limits
+use Rattle.server_opening.proofs.Counting.{as-many, told-grows}
 use Rattle.server_opening.proofs.Paying.{at-start, law-missing, nobody-none, told-none}
 use Rattle.server_opening.proofs.opening.deal_if_admitted.Goals as goal
 
@@ -24,3 +26,9 @@ returns-in-Some-clause-deals c = λ view o start follows e admitted.
 
 pub returns-in-Some-clause-nobody : goal.returns-in-Some-clause-nobody
 returns-in-Some-clause-nobody c = λ view e. nobody-none view c.args.draft.now.acts e
+
+pub returns-in_ok-deal_with_orphan-in-None-clause-few : goal.returns-in_ok-deal_with_orphan-in-None-clause-few
+returns-in_ok-deal_with_orphan-in-None-clause-few c to =
+    let old = c.args.draft.now in
+    let new = c.deal_with_orphan.new.draft in
+    told-grows to limits.inodes old new (c.in_ok-deal_with_orphan-in-None.ensures.few to) (as-many old new c.in_ok-deal_with_orphan-in-None.ensures.requests)

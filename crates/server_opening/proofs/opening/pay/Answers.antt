@@ -2,6 +2,7 @@ use Rattle.std.proofs.Common.{subst, sym, refl, ◌∙◌}
 use Rattle.cluster_law.specs.Asking.{is_admit, is_wait}
 use Rattle.rebuild.specs.Collecting.{missing_of}
 use Rattle.server_draft.specs.Acts.{acts_of}
+use Rattle.server_opening.proofs.Counting.{as-many, told-grows, waits-named, waits-requests}
 use Rattle.server_opening.proofs.Paying.{nobody-none, nobody-waits, told-none}
 use Rattle.server_opening.specs.Owed.{IsOwedFor, IsPaid}
 use Rattle.server_opening.specs.declared.hearing.Owed.{Owed}
@@ -28,4 +29,20 @@ returns-in_ok-take_flush-in-Flush-clause-paid c = λ view o start follows e.
 
 pub returns-in_ok-take_flush-in-Flush-clause-nobody : goal.returns-in_ok-take_flush-in-Flush-clause-nobody
 returns-in_ok-take_flush-in-Flush-clause-nobody c = λ view e client.
-    c.in_ok-take_flush-in-Flush.ensures.acts.others view client is_admit refl ∙ told-none view client is_admit c.args.draft.now.acts e
+    c.in_ok-take_flush-in-Flush.ensures.acts.others view client is_admit (refl, tt) ∙ told-none view client is_admit c.args.draft.now.acts e
+
+pub returns-in_ok-answer_wait-in-Wait-clause-few : goal.returns-in_ok-answer_wait-in-Wait-clause-few
+returns-in_ok-answer_wait-in-Wait-clause-few c to =
+    let old = c.args.draft.now in
+    let new = c.answer_wait.new.draft in
+    told-grows to 1 old new (c.in_ok-answer_wait-in-Wait.ensures.few to) (as-many old new (waits-requests old new c.args.client c.in-Wait.number (missing_of old.desk.collecting) c.in_ok-answer_wait-in-Wait.ensures.state))
+
+pub returns-in_ok-answer_wait-in-Wait-clause-names : goal.returns-in_ok-answer_wait-in-Wait-clause-names
+returns-in_ok-answer_wait-in-Wait-clause-names c names =
+    waits-named c.args.draft.now c.answer_wait.new.draft c.args.client c.in-Wait.number (missing_of c.args.draft.now.desk.collecting) c.in_ok-answer_wait-in-Wait.ensures.state names
+
+pub returns-in_ok-take_flush-in-Flush-clause-few : goal.returns-in_ok-take_flush-in-Flush-clause-few
+returns-in_ok-take_flush-in-Flush-clause-few c to =
+    let old = c.args.draft.now in
+    let new = c.take_flush.new.draft in
+    told-grows to 1 old new (c.in_ok-take_flush-in-Flush.ensures.few to) (as-many old new c.in_ok-take_flush-in-Flush.ensures.desk.requests)

@@ -6,6 +6,8 @@ use Rattle.cluster_law.specs.ServerRules.{Removes}
 use Rattle.cluster_law.specs.ServerState.{ServerState}
 use Rattle.server_draft.specs.Acts.{acts_of}
 use Rattle.server_draft.specs.Draft.{reached}
+use Rattle.cal_base.specs.Limits as limits
+use Rattle.server_opening.proofs.Counting.{told-grows, told-nothing}
 use Rattle.server_opening.proofs.Paying.{at-start, removed-none, told-none}
 use Rattle.server_opening.proofs.opening.remove_one.Goals as goal
 
@@ -30,3 +32,9 @@ returns-in_ok-deal_if_admitted-in-None-clause-follows c = λ view o start follow
 pub returns-in_ok-deal_if_admitted-in-None-clause-removed : goal.returns-in_ok-deal_if_admitted-in-None-clause-removed
 returns-in_ok-deal_if_admitted-in-None-clause-removed c = λ view o start follows e is.
     subst (λ (d : Option ClientId). Removes start (reached view start c.deal_if_admitted.new.draft) (acts_of view c.deal_if_admitted.new.draft.acts) d) (sym c.in-None.is ∙ is) (λ admitted. c.in_ok-deal_if_admitted-in-None.ensures.deals view o start follows e admitted)
+
+pub returns-in_ok-purge-in-Some-clause-few : goal.returns-in_ok-purge-in-Some-clause-few
+returns-in_ok-purge-in-Some-clause-few c to =
+    let old = c.args.draft.now in
+    let new = c.purge.new.draft in
+    told-grows to limits.inodes old new (told-nothing to old new (c.in_ok-purge-in-Some.ensures.few to)) c.in_ok-purge-in-Some.ensures.requests

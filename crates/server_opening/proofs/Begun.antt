@@ -13,9 +13,10 @@ use Rattle.server_draft.specs.Draft.{Begins, Follows, HasSpace, reached}
 use Rattle.server_draft.specs.declared.draft.Draft.{Draft}
 use Rattle.server_reports.specs.Reports.{HasAdmittedNobody}
 use Rattle.server_opening.proofs.Owing.{answers, hearing-volume}
-use Rattle.server_opening.proofs.Paying.{nobody-none, owed-taken}
+use Rattle.server_opening.proofs.Paying.{nobody-none, owed-taken, ungranted-none}
 use Rattle.server_opening.specs.Opens.{GoesOut, Opens, begun, taken_of}
 use Rattle.server_opening.specs.Owed.{IsOwedFor, IsPaid, owed_for}
+use Rattle.server_opening.specs.Ungranted.{HasGrantedNobody}
 use Rattle.server_opening.specs.declared.hearing.Owed.{Owed}
 use Rattle.server_opening.specs.declared.opening.Coming.{Coming}
 use Rattle.server_opening.specs.declared.opening.Coming.TheVariants.{Message as Comes}
@@ -42,25 +43,27 @@ begins-still view s desk v coming draft same out e = subst (Begins s) (sym e) (r
 pub opens-answer : (view : ℕ) (o : Occasion) (s : ServerState) (desk heard : DeskValue) (v : Volume) (client : ClientId) (m : Message) (first last : Draft) (owed : Owed)
     → GoesOut view s desk v (Comes client m) → IsLike heard (hearing s client m) → o.took ≡ taken_of view (Comes client m) → o.tick ≡ false
     → owed ≡ owed_for desk v m → first ≡ record { desk = heard; image = v; acts = [] }
-    → (IsOwedFor o.took client owed → Follows view o (hearing s client m) last) → IsPaid first.desk (hearing s client m) client owed (acts_of view last.acts) → HasAdmittedNobody view last.acts
+    → (IsOwedFor o.took client owed → Follows view o (hearing s client m) last) → IsPaid first.desk (hearing s client m) client owed (acts_of view last.acts) → HasAdmittedNobody view last.acts → HasGrantedNobody view last.acts
     → Opens view o (hearing s client m) last
-opens-answer view o s desk heard v client m first last owed out like took tick owes e follows paid nobody = record {
+opens-answer view o s desk heard v client m first last owed out like took tick owes e follows paid nobody ungranted = record {
   follows = follows (subst (λ (t : Option Taken). IsOwedFor t client owed) (sym took) (subst (λ (w : Owed). IsOwedFor (taken_of view (Comes client m)) client w) (sym owes) (owed-taken view desk v client m)));
   taken = subst (AnswersTaken (hearing s client m) (acts_of view last.acts)) (sym took) (λ used. answers desk heard v s client m (acts_of view last.acts) out.like out.volume_is like paid' used);
   removed = λ ticks. absurd (true≢false (sym ticks ∙ tick));
   nobody = nobody;
+  ungranted = ungranted;
 }
   where
     paid' : IsPaid heard (hearing s client m) client (owed_for desk v m) (acts_of view last.acts)
     paid' = subst (λ (w : Owed). IsPaid heard (hearing s client m) client w (acts_of view last.acts)) owes (subst (λ (d : Draft). IsPaid d.desk (hearing s client m) client owed (acts_of view last.acts)) e paid)
 
 -- for a tick: what is to be removed is, and no message was taken
-pub opens-remove : (view : ℕ) (o : Occasion) (s : ServerState) (last : Draft) → o.took ≡ None → Follows view o s last → Removes s (reached view s last) (acts_of view last.acts) (due o.gone s) → HasAdmittedNobody view last.acts → Opens view o s last
-opens-remove view o s last took follows removes nobody = record {
+pub opens-remove : (view : ℕ) (o : Occasion) (s : ServerState) (last : Draft) → o.took ≡ None → Follows view o s last → Removes s (reached view s last) (acts_of view last.acts) (due o.gone s) → HasAdmittedNobody view last.acts → HasGrantedNobody view last.acts → Opens view o s last
+opens-remove view o s last took follows removes nobody ungranted = record {
   follows = follows;
   taken = subst (AnswersTaken s (acts_of view last.acts)) (sym took) tt;
   removed = λ ticks. removes;
   nobody = nobody;
+  ungranted = ungranted;
 }
 
 -- for nothing: nothing is owed
@@ -70,4 +73,5 @@ opens-nothing view o s last took tick none follows = record {
   taken = subst (AnswersTaken s (acts_of view last.acts)) (sym took) tt;
   removed = λ ticks. absurd (true≢false (sym ticks ∙ tick));
   nobody = nobody-none view last.acts none;
+  ungranted = ungranted-none view last.acts none;
 }

@@ -21,6 +21,7 @@ use Rattle.server_draft.specs.declared.act.Act.TheVariants.{Tells}
 use Rattle.server_draft.specs.declared.draft.Draft.{Draft}
 use Rattle.server_reports.specs.Reports.{HasAdmittedNobody, with_wait}
 use Rattle.server_opening.specs.Owed.{IsOwedFor, owed_for, owed_request}
+use Rattle.server_opening.specs.Ungranted.{HasGrantedNobody, is_grant}
 use Rattle.server_opening.specs.declared.hearing.Owed.{Owed}
 use Rattle.server_opening.specs.declared.hearing.Owed.TheVariants.{Nothing, Wait as OwesWait}
 
@@ -58,6 +59,23 @@ pub nobody-waits : (view : ℕ) (d new : Draft) (client : ClientId) (number : �
 nobody-waits view d new client number None e none = nobody-none view new.acts (ap (λ (x : Draft). x.acts) e ∙ none)
 nobody-waits view d new client number (Some least) e none =
     subst (HasAdmittedNobody view) (sym (ap (λ (x : Draft). x.acts) e ∙ ap (λ (xs : List Act). xs ++ Tells client (Wait number least) ∷ []) none)) (waits-one view client number least)
+
+-- nor is anything granted
+pub ungranted-none : (view : ℕ) (acts : List Act) → acts ≡ [] → HasGrantedNobody view acts
+ungranted-none view acts e = λ client. told-none view client is_grant acts e
+
+wait-grants-none : (view : ℕ) (client : ClientId) (number : ℕ) (least : ClientId) → HasGrantedNobody view (Tells client (Wait number least) ∷ [])
+unfolding acts_of
+wait-grants-none view client number least = λ other. at (nat_eq client.0 other)
+  where
+    at : (b : Bool) → (if b && false then true else false) ≡ false
+    at true = refl
+    at false = refl
+
+pub ungranted-waits : (view : ℕ) (d new : Draft) (client : ClientId) (number : ℕ) (missing : Option ClientId) → new ≡ with_wait d client number missing → d.acts ≡ [] → HasGrantedNobody view new.acts
+ungranted-waits view d new client number None e none = ungranted-none view new.acts (ap (λ (x : Draft). x.acts) e ∙ none)
+ungranted-waits view d new client number (Some least) e none =
+    subst (HasGrantedNobody view) (sym (ap (λ (x : Draft). x.acts) e ∙ ap (λ (xs : List Act). xs ++ Tells client (Wait number least) ∷ []) none)) (wait-grants-none view client number least)
 
 -- what the desk owes is owed for the message that is taken
 same-number : (n : ℕ) → nat_eq n n ≡ true

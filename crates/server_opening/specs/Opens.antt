@@ -15,6 +15,7 @@ use Rattle.server_draft.specs.Draft.{Follows, HasSpace, reached}
 use Rattle.server_draft.specs.declared.draft.Draft.{Draft}
 use Rattle.server_removals.specs.Removals.{gone_in}
 use Rattle.server_reports.specs.Reports.{HasAdmittedNobody}
+use Rattle.server_opening.specs.Ungranted.{HasGrantedNobody}
 use Rattle.server_opening.specs.declared.opening.Coming.{Coming}
 use Rattle.server_opening.specs.declared.opening.Coming.TheVariants.{Nothing, Message, Tick}
 use Rattle.volume.specs.Stands.{AreBlocksKept}
@@ -60,3 +61,4 @@ pub record Opens (view : ℕ) (o : Occasion) (start : ServerState) (draft : Draf
   pub taken : AnswersTaken start (acts_of view draft.acts) o.took
   pub removed : IsTrue o.tick → Removes start (reached view start draft) (acts_of view draft.acts) (due o.gone start)
   pub nobody : HasAdmittedNobody view draft.acts
+  pub ungranted : HasGrantedNobody view draft.acts

@@ -8,7 +8,8 @@
 //!
 //! Promised ([`open_step`]): from each server of the law that holds the same, has the same volume, and keeps blocks
 //! for what is held, the draft follows the law's server that has heard what comes; what the law says that is owed
-//! for a message is told, and what it says of a tick is removed; and nobody is admitted yet (`Opens`, specs/Opens).
+//! for a message is told, and what it says of a tick is removed; and nobody is admitted or
+//! granted anything yet (`Opens`, specs/Opens).
 #![tactic(auto)]
 
 mod hearing;

@@ -12,6 +12,7 @@ ghost use Rattle.server_draft.specs.Draft.{Follows, reached, told_or_waiting};
 ghost use Rattle.server_reports.specs.Reports.{HasAdmittedNobody};
 ghost use Rattle.server_opening.specs.Opens.{CanCome, GoesOut, Opens, begun, occasion, taken_of};
 ghost use Rattle.server_opening.specs.Owed.{IsOwedFor, IsPaid, MayBeOwed};
+ghost use Rattle.server_opening.specs.Ungranted.{HasGrantedNobody};
 ghost use Rattle.server_opening.specs.declared.opening.Coming.TheVariants.{Message as Comes, Tick};
 
 use crate::hearing::{Owed, hear};
@@ -94,6 +95,7 @@ fn pay(alloc: Global, draft: &mut Draft, client: ClientId, owed: Owed) -> Result
     ensures follows { OnOk result ((view : ℕ) (o : Occasion) (start : ServerState) → Follows view o start draft.old → draft.old.acts ≡ [] → IsOwedFor o.took client owed → Follows view o start draft.new) }
     ensures paid { OnOk result ((view : ℕ) (o : Occasion) (start : ServerState) → Follows view o start draft.old → draft.old.acts ≡ [] → IsPaid draft.old.desk start client owed (acts_of view draft.new.acts)) }
     ensures nobody { OnOk result ((view : ℕ) → draft.old.acts ≡ [] → HasAdmittedNobody view draft.new.acts) }
+    ensures ungranted { OnOk result ((view : ℕ) → draft.old.acts ≡ [] → HasGrantedNobody view draft.new.acts) }
     ensures few { OnOk result ((to : ℕ) → told_or_waiting to draft.new ≤ told_or_waiting to draft.old + 1) }
     ensures names { OnOk result (AreNamed draft.old.image → AreNamed draft.new.image) }
 {
@@ -129,6 +131,7 @@ fn remove_one(alloc: Global, draft: &mut Draft, gone: Option<ClientId>) -> Resul
     ensures follows { OnOk result ((view : ℕ) (o : Occasion) (start : ServerState) → Follows view o start draft.old → draft.old.acts ≡ [] → gone ≡ due o.gone start → IsTrue o.tick → Follows view o start draft.new) }
     ensures removed { OnOk result ((view : ℕ) (o : Occasion) (start : ServerState) → Follows view o start draft.old → draft.old.acts ≡ [] → gone ≡ due o.gone start → Removes start (reached view start draft.new) (acts_of view draft.new.acts) (due o.gone start)) }
     ensures nobody { OnOk result ((view : ℕ) → draft.old.acts ≡ [] → HasAdmittedNobody view draft.new.acts) }
+    ensures ungranted { OnOk result ((view : ℕ) → draft.old.acts ≡ [] → HasGrantedNobody view draft.new.acts) }
     ensures few { OnOk result ((to : ℕ) → told_or_waiting to draft.new ≤ told_or_waiting to draft.old + limits.inodes) }
     ensures names { OnOk result (AreNamed draft.old.image → AreNamed draft.new.image) }
 {
@@ -149,6 +152,7 @@ fn deal_if_admitted(alloc: Global, draft: &mut Draft) -> Result<(), Oom>
     ensures follows { OnOk result ((view : ℕ) (o : Occasion) (start : ServerState) → Follows view o start draft.old → draft.old.acts ≡ [] → due o.gone start ≡ Missing → IsTrue o.tick → Follows view o start draft.new) }
     ensures deals { OnOk result ((view : ℕ) (o : Occasion) (start : ServerState) → Follows view o start draft.old → draft.old.acts ≡ [] → IsTrue (is_admitted start) → DealsWithOrphan start (reached view start draft.new) (acts_of view draft.new.acts) (deserted start)) }
     ensures nobody { OnOk result ((view : ℕ) → draft.old.acts ≡ [] → HasAdmittedNobody view draft.new.acts) }
+    ensures ungranted { OnOk result ((view : ℕ) → draft.old.acts ≡ [] → HasGrantedNobody view draft.new.acts) }
     ensures few { OnOk result ((to : ℕ) → told_or_waiting to draft.new ≤ told_or_waiting to draft.old + limits.inodes) }
     ensures names { OnOk result (AreNamed draft.old.image → AreNamed draft.new.image) }
 {

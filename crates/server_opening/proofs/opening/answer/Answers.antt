@@ -14,6 +14,7 @@ returns-clause-opens c = λ view o server out took tick.
     (λ owed. c.in_ok-pay.ensures.follows view o (hearing server c.args.client c.args.message) follows (ap (λ (d : Draft). d.acts) c.new-draft.ensures.draft) owed)
     (c.in_ok-pay.ensures.paid view o (hearing server c.args.client c.args.message) follows (ap (λ (d : Draft). d.acts) c.new-draft.ensures.draft))
     (c.in_ok-pay.ensures.nobody view (ap (λ (d : Draft). d.acts) c.new-draft.ensures.draft))
+    (c.in_ok-pay.ensures.ungranted view (ap (λ (d : Draft). d.acts) c.new-draft.ensures.draft))
 
 pub returns-clause-few : goal.returns-clause-few
 returns-clause-few c to =

@@ -4,7 +4,8 @@ use Rattle.cluster_law.specs.Removing.{due}
 use Rattle.cluster_law.specs.ServerState.{ServerState, is_admitted}
 use Rattle.cal_base.specs.Limits as limits
 use Rattle.server_opening.proofs.Counting.{as-many, told-grows}
-use Rattle.server_opening.proofs.Paying.{at-start, law-missing, nobody-none, told-none}
+use Rattle.server_opening.proofs.Paying.{at-start, law-missing, nobody-none, told-none, ungranted-none}
+use Rattle.server_opening.specs.Ungranted.{is_grant}
 use Rattle.server_opening.proofs.opening.deal_if_admitted.Goals as goal
 
 pub returns-in_ok-deal_with_orphan-in-None-clause-follows : goal.returns-in_ok-deal_with_orphan-in-None-clause-follows
@@ -32,3 +33,10 @@ returns-in_ok-deal_with_orphan-in-None-clause-few c to =
     let old = c.args.draft.now in
     let new = c.deal_with_orphan.new.draft in
     told-grows to limits.inodes old new (c.in_ok-deal_with_orphan-in-None.ensures.few to) (as-many old new c.in_ok-deal_with_orphan-in-None.ensures.requests)
+
+pub returns-in_ok-deal_with_orphan-in-None-clause-ungranted : goal.returns-in_ok-deal_with_orphan-in-None-clause-ungranted
+returns-in_ok-deal_with_orphan-in-None-clause-ungranted c = λ view e client.
+    c.in_ok-deal_with_orphan-in-None.ensures.told view client is_grant (λ revoke. refl) ∙ told-none view client is_grant c.args.draft.now.acts e
+
+pub returns-in-Some-clause-ungranted : goal.returns-in-Some-clause-ungranted
+returns-in-Some-clause-ungranted c = λ view e. ungranted-none view c.args.draft.now.acts e

@@ -3,8 +3,9 @@ use Rattle.cluster_law.specs.Asking.{is_admit, is_wait}
 use Rattle.rebuild.specs.Collecting.{missing_of}
 use Rattle.server_draft.specs.Acts.{acts_of}
 use Rattle.server_opening.proofs.Counting.{as-many, told-grows, waits-named, waits-requests}
-use Rattle.server_opening.proofs.Paying.{nobody-none, nobody-waits, told-none}
+use Rattle.server_opening.proofs.Paying.{nobody-none, nobody-waits, told-none, ungranted-none, ungranted-waits}
 use Rattle.server_opening.specs.Owed.{IsOwedFor, IsPaid}
+use Rattle.server_opening.specs.Ungranted.{is_grant}
 use Rattle.server_opening.specs.declared.hearing.Owed.{Owed}
 use Rattle.server_opening.proofs.opening.pay.Goals as goal
 
@@ -46,3 +47,14 @@ returns-in_ok-take_flush-in-Flush-clause-few c to =
     let old = c.args.draft.now in
     let new = c.take_flush.new.draft in
     told-grows to 1 old new (c.in_ok-take_flush-in-Flush.ensures.few to) (as-many old new c.in_ok-take_flush-in-Flush.ensures.desk.requests)
+
+pub returns-in-Nothing-clause-ungranted : goal.returns-in-Nothing-clause-ungranted
+returns-in-Nothing-clause-ungranted c = λ view e. ungranted-none view c.args.draft.now.acts e
+
+pub returns-in_ok-answer_wait-in-Wait-clause-ungranted : goal.returns-in_ok-answer_wait-in-Wait-clause-ungranted
+returns-in_ok-answer_wait-in-Wait-clause-ungranted c = λ view e.
+    ungranted-waits view c.args.draft.now c.answer_wait.new.draft c.args.client c.in-Wait.number (missing_of c.args.draft.now.desk.collecting) c.in_ok-answer_wait-in-Wait.ensures.state e
+
+pub returns-in_ok-take_flush-in-Flush-clause-ungranted : goal.returns-in_ok-take_flush-in-Flush-clause-ungranted
+returns-in_ok-take_flush-in-Flush-clause-ungranted c = λ view e client.
+    c.in_ok-take_flush-in-Flush.ensures.acts.others view client is_grant (refl, tt) ∙ told-none view client is_grant c.args.draft.now.acts e

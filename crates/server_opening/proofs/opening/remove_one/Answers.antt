@@ -9,6 +9,7 @@ use Rattle.server_draft.specs.Draft.{reached}
 use Rattle.cal_base.specs.Limits as limits
 use Rattle.server_opening.proofs.Counting.{told-grows, told-nothing}
 use Rattle.server_opening.proofs.Paying.{at-start, removed-none, told-none}
+use Rattle.server_opening.specs.Ungranted.{is_grant}
 use Rattle.server_opening.proofs.opening.remove_one.Goals as goal
 
 pub returns-in_ok-purge-in-Some-clause-follows : goal.returns-in_ok-purge-in-Some-clause-follows
@@ -38,3 +39,7 @@ returns-in_ok-purge-in-Some-clause-few c to =
     let old = c.args.draft.now in
     let new = c.purge.new.draft in
     told-grows to limits.inodes old new (told-nothing to old new (c.in_ok-purge-in-Some.ensures.few to)) c.in_ok-purge-in-Some.ensures.requests
+
+pub returns-in_ok-purge-in-Some-clause-ungranted : goal.returns-in_ok-purge-in-Some-clause-ungranted
+returns-in_ok-purge-in-Some-clause-ungranted c = λ view e client.
+    c.in_ok-purge-in-Some.ensures.told view client is_grant ∙ told-none view client is_grant c.args.draft.now.acts e

@@ -12,7 +12,8 @@
 #![tactic(auto)]
 
 mod coming;
+mod planning;
+mod sending;
 mod server_node;
-mod turning;
 
 pub use server_node::ServerNode;

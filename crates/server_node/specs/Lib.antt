@@ -1,0 +1,4 @@
+pub mod Node
+pub mod Step
+pub mod Quiet
+pub mod Parts

@@ -9,6 +9,7 @@ use Rattle.rebuild.specs.Collecting.{Collecting, missing_of}
 use Rattle.revocation.specs.Waiting.{IsRequest}
 use Rattle.shared_disk.specs.Disk.{Disk}
 use Rattle.token_kind.specs.declared.block.Block.{Block}
+use Rattle.tree_law.specs.declared.request.Asked.{Asked}
 use Rattle.tree_law.specs.declared.request.Request.{Request}
 use Rattle.volume_names.specs.Named.{AreNamed}
 use Rattle.cluster_law.specs.Asking.{blocks_of, next_revoke}
@@ -17,7 +18,7 @@ use Rattle.cluster_law.specs.DiskRules.{would_read}
 use Rattle.cluster_law.specs.Granting.{head}
 use Rattle.cluster_law.specs.Lists.{first_of}
 use Rattle.cluster_law.specs.ServerRules.{IsNamed, LineRests, Occasion, Rests}
-use Rattle.cluster_law.specs.ServerState.{ServerState, is_admitted}
+use Rattle.cluster_law.specs.ServerState.{ServerState, as_request, is_admitted}
 use Rattle.server_book.proofs.Deciding.{admitted, head-same}
 use Rattle.server_draft.specs.Draft.{Follows, reached}
 use Rattle.server_draft.specs.declared.draft.Draft.{Draft}
@@ -30,15 +31,19 @@ use Rattle.server_line.proofs.Counting.{grew-most}
 use Rattle.server_line.proofs.Going.{alike-known, goes-more}
 use Rattle.server_line.proofs.Wanted.{would-same}
 
--- the head that waits, as it was copied
-pub head-copied : (draft : Draft) (request copy : Request) → HasHead draft → Some request ≡ slice_get draft.desk.requests 0 → All IsRequest draft.desk.requests → copy ≡ request → IsHead draft copy
-head-copied draft request copy has is each same = subst (λ (r : Request). IsHead draft r) (sym same) (record { admitted = has.admitted; head_is = (by draft.desk.requests is each).0; request_is = (by draft.desk.requests is each).1 })
+-- the head that waits
+pub head-waits : (draft : Draft) (request : Request) → HasHead draft → Some request ≡ slice_get draft.desk.requests 0 → All IsRequest draft.desk.requests → IsHead draft request
+head-waits draft request has is each = record { admitted = has.admitted; head_is = (by draft.desk.requests is each).0; request_is = (by draft.desk.requests is each).1 }
   where
     by : (rs : List Request) → Some request ≡ slice_get rs 0 → All IsRequest rs → (first_of rs ≡ Some request) × IsRequest request
     by [] e all = absurd (cc)
     by (r ∷ rs) e all =
         let one : request ≡ r = cc in
         (ap (λ (x : Request). Some x) (sym one), subst (λ (x : Request). IsRequest x) (sym one) (All-head IsRequest r rs all))
+
+-- and as what it asks
+pub head-as : (draft : Draft) (request : Request) (asked : Asked) → IsHead draft request → request.asked ≡ asked → IsHead draft (as_request request.client request.number asked)
+head-as draft request asked head is = subst (λ (a : Asked). IsHead draft (as_request request.client request.number a)) is head
 
 -- whom a server waits for is told without the table
 missing-same : (old new : Draft) → Keeps old new → missing_of new.desk.collecting ≡ missing_of old.desk.collecting

@@ -1,5 +1,5 @@
 -- What blocks a request.
-use Rattle.std.specs.Prelude.{◌≡◌, ◌++◌, [], ℕ, All}
+use Rattle.std.specs.Prelude.{◌≡◌, ◌++◌, [], ℕ, List, All}
 use Rattle.cal_base.specs.declared.identity.ClientId.{ClientId}
 use Rattle.revocation.specs.Formed.{AreAskable}
 use Rattle.revocation.specs.Revokes.{revokes_of}
@@ -10,7 +10,9 @@ use Rattle.tree_law.specs.declared.request.Want.{Want}
 use Rattle.cluster_law.specs.Blocking.{blocks, blocks_for, lacking}
 use Rattle.cluster_law.specs.ServerState.{ServerState, as_request, table_in}
 use Rattle.server_draft.specs.Draft.{IsWithin}
+use Rattle.server_draft.specs.declared.draft.Draft.{Draft}
 use Rattle.server_line.specs.Granted.{AreNeeds}
+use Rattle.server_line.specs.Known.{IsHead, known}
 use Rattle.server_line.specs.declared.resting.Blockers.{Blockers}
 use Rattle.server_line.specs.declared.needing.Gap.{Gap}
 
@@ -32,3 +34,9 @@ pub record IsGap (server : ServerState) (client : ClientId) (number : ℕ) (want
   pub blocked : AreBlockers server (as_request client number (Wants want)) gap.blockers
   pub grantable : gap.blockers.to_ask ≡ [] → All (IsGrantable (table_in server) client) gap.lacking
   pub needs : AreNeeds server.volume gap.lacking
+
+-- an Acquire stands at the head of the line, of this client and number, and this stands between the client and it
+pub record HasWant (draft : Draft) (client : ClientId) (number : ℕ) (gap : Gap) : Type 0 where
+  pub want : Want
+  pub head : IsHead draft (as_request client number (Wants want))
+  pub is_gap : (sectors : List (List ℕ)) → IsGap (known draft sectors) client number want gap

@@ -13,9 +13,10 @@ ghost use Rattle.server_draft.specs.Draft.{Follows, reached};
 ghost use Rattle.server_draft.specs.declared.act.Act.TheVariants.{Tells};
 ghost use Rattle.server_line.specs.Blocked.{AreBlockers, CanBeAsked};
 ghost use Rattle.server_line.specs.Changed.{IsPlanned};
-ghost use Rattle.server_line.specs.Known.{HasHead, IsHead, known};
+ghost use Rattle.server_line.specs.Known.{HasChange, HasHead, IsHead, known};
 ghost use Rattle.server_line.specs.Served.{Goes, IsAnswer, Serves};
 
+use crate::at_head::{change_of, copy_of};
 use crate::resting::{Blockers, is_free, or_space, rest, table_of};
 use crate::unnaming::opened_for;
 use cal_base::{CLIENTS, ClientId, Items, Oom};
@@ -35,9 +36,8 @@ pub(crate) fn serve_change(
     draft: &mut Draft,
     client: ClientId,
     number: u64,
-    call: Call,
 ) -> Result<Option<Block>, Oom>
-    requires { IsHead draft.old (as_request client number (Alters call)) }
+    requires { HasChange draft.old client number }
     ensures { IfOk result (Serves (λ start. Unit {0}) (Unit {0}) draft.old draft.new) }
 {
     match draft.image.slot(client).judge(number) {
@@ -49,7 +49,7 @@ pub(crate) fn serve_change(
             answer(draft, client, Message::Done { number, reply })?;
             Ok(None)
         }
-        Judged::New => change(alloc, draft, client, number, call),
+        Judged::New => change(alloc, draft, client, number),
     }
 }
 
@@ -71,15 +71,16 @@ fn change(
     draft: &mut Draft,
     client: ClientId,
     number: u64,
-    call: Call,
 ) -> Result<Option<Block>, Oom>
-    requires head { IsHead draft.old (as_request client number (Alters call)) }
+    requires head { HasChange draft.old client number }
     requires new { (slot_at draft.old.image.slots client.0).call < number }
     ensures { IfOk result (Serves (λ start. Unit {0}) (Unit {0}) draft.old draft.new) }
 {
-    let planned = plan(alloc, draft, client, number, &call)?;
-    let blockers = blockers_of(alloc, draft, client, number, &call, &planned)?;
+    let call = change_of(draft, client, number);
+    let planned = plan(alloc, draft, client, number, call)?;
+    let blockers = blockers_of(alloc, draft, client, number, call, &planned)?;
     if is_free(&blockers) {
+        let call = copy_of(call)?;
         carry_out(alloc, draft, client, number, call, planned)?;
         Ok(None)
     } else {

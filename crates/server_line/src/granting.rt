@@ -22,7 +22,7 @@ ghost use Rattle.cluster_law.specs.ServerState.{ServerState, as_request, granted
 ghost use Rattle.server_draft.specs.Acts.{act_of, acts_of, tells, told_to};
 ghost use Rattle.server_draft.specs.Draft.{Follows, HasSpace, reached};
 ghost use Rattle.server_draft.specs.declared.act.Act.TheVariants.{Tells};
-ghost use Rattle.server_line.specs.Blocked.{IsGap};
+ghost use Rattle.server_line.specs.Blocked.{CanBeAsked, HasWant, IsGap};
 ghost use Rattle.server_line.specs.Granted.{Answers, AreAnswers, AreNeeds, IsNamed, IsNeed, MayRead};
 ghost use Rattle.server_line.specs.Known.{IsHead, SeesOwn, known};
 ghost use Rattle.volume_names.specs.Named.{AreNamed};
@@ -31,7 +31,7 @@ ghost use Rattle.server_line.specs.Stopping.{OnlyReads};
 ghost use Rattle.server_line.specs.declared.stopping.ServeError.TheVariants.{Refused};
 
 use crate::changing::answer;
-use crate::needing::{Gap, gap_of};
+use crate::needing::Gap;
 use crate::resting::{is_free, rest, table_of};
 use crate::stopping::ServeError;
 use cal_base::{Blob, CLIENTS, ClientId, EntryList, Ino, Oom};
@@ -42,7 +42,6 @@ use server_draft::Draft;
 use shared_disk::PortDisk;
 use std::alloc::Global;
 use token_kind::{Block, Class, Content, GrantItem, GrantItemList, Hold, Token};
-use tree_law::Want;
 
 /// Serves the Acquire at the head of the line: grants what lacks where nothing blocks it and there are blocks
 /// enough, refuses it where too few are free and nobody can give any back, and else asks back what blocks it.
@@ -53,14 +52,14 @@ pub(crate) fn serve_want<D: PortDisk>(
     disk: &mut D,
     client: ClientId,
     number: u64,
-    want: &Want,
+    gap: &Gap,
 ) -> Result<Option<Block>, ServeError>
-    requires { IsHead draft.old (as_request client number (Wants want.now)) }
+    requires wants { HasWant draft.old client number gap.now }
+    requires askable { CanBeAsked gap.now.blockers }
     ensures reads { OnlyReads (D.means disk.old) port.now.view (D.fault_count disk.old) result (D.means disk.new) (D.fault_count disk.new) }
     ensures serves { IfOk result (Serves (λ start. SeesOwn start port.now.view (D.means disk.old)) ((D.means disk.old).key ≢ port.now.view) draft.old draft.new) }
     ensures stops { IfErr result (λ error. Stops error draft.old draft.new) }
 {
-    let gap = gap_of(alloc, draft, client, want)?;
     if !is_free(&gap.blockers) {
         let blocked = rest(draft, client, number, &gap.blockers)?;
         return Ok(blocked);
@@ -79,7 +78,7 @@ pub(crate) fn serve_want<D: PortDisk>(
         )?;
         return Ok(None);
     }
-    match grant(alloc, draft, port, disk, client, number, &gap) {
+    match grant(alloc, draft, port, disk, client, number, gap) {
         Ok(()) => Ok(None),
         Err(error) => Err(error),
     }

@@ -14,6 +14,7 @@
 //! memory nothing is promised of the draft.
 #![tactic(auto)]
 
+mod at_head;
 mod changing;
 mod granting;
 mod needing;

@@ -11,20 +11,21 @@ ghost use Rattle.cluster_law.specs.ServerRules.{LineRests, Occasion};
 ghost use Rattle.cluster_law.specs.ServerState.{ServerState, is_admitted};
 ghost use Rattle.server_draft.specs.Acts.{acts_of};
 ghost use Rattle.server_draft.specs.Draft.{Follows, Grows, reached, told_or_waiting};
-ghost use Rattle.server_line.specs.Known.{HasHead, IsHead, SeesOwn};
+ghost use Rattle.server_line.specs.Known.{HasHead, SeesOwn};
 ghost use Rattle.server_line.specs.Served.{Goes, ReadNothing, Serves, Stops, TellsNoMore, WouldRead};
 ghost use Rattle.server_line.specs.Stopping.{OnlyReads, UnlessOom};
 
+use crate::at_head::head_of;
 use crate::changing::serve_change;
 use crate::granting::serve_want;
+use crate::needing::gap_of;
 use crate::stopping::ServeError;
-use cal_base::Oom;
 use fence::Port;
 use server_draft::Draft;
 use shared_disk::PortDisk;
 use std::alloc::Global;
 use token_kind::Block;
-use tree_law::{Asked, Request};
+use tree_law::Asked;
 
 /// Serves the line of an admitted server, head after head, until it is empty or its head is blocked: then all that
 /// blocks it is asked back, and the first of it is answered. The disk is read alone, and only where bytes of a file
@@ -107,54 +108,16 @@ fn serve_head<D: PortDisk>(
     ensures serves { IfOk result (Serves (λ start. SeesOwn start port.now.view (D.means disk.old)) ((D.means disk.old).key ≢ port.now.view) draft.old draft.new) }
     ensures stops { IfErr result (λ error. Stops error draft.old draft.new) }
 {
-    let request = head_of(draft)?;
-    serve_request(alloc, draft, port, disk, request)
-}
-
-/// The head of the line.
-fn head_of(draft: &Draft) -> Result<Request, Oom>
-    requires { HasHead draft.now }
-    ensures { IfOk result (IsHead draft.now) }
-{
-    match draft.desk.head() {
-        Some(request) => {
-            let copy = copy_of(request)?;
-            Ok(copy)
+    let request = head_of(draft);
+    let client = request.client;
+    let number = request.number;
+    match &request.asked {
+        Asked::Want(want) => {
+            let gap = gap_of(alloc, draft, client, want)?;
+            serve_want(alloc, draft, port, disk, client, number, &gap)
         }
-        None => unreachable!(),
-    }
-}
-
-/// A request once more.
-fn copy_of(request: &Request) -> Result<Request, Oom>
-    ensures { IfOk result (λ copy. copy ≡ request.now) }
-{
-    let copy = request.clone()?;
-    Ok(copy)
-}
-
-/// Serves the request at the head of the line, or answers what blocks it.
-fn serve_request<D: PortDisk>(
-    alloc: Global,
-    draft: &mut Draft,
-    port: &Port,
-    disk: &mut D,
-    request: Request,
-) -> Result<Option<Block>, ServeError>
-    requires { IsHead draft.old request }
-    ensures reads { OnlyReads (D.means disk.old) port.now.view (D.fault_count disk.old) result (D.means disk.new) (D.fault_count disk.new) }
-    ensures serves { IfOk result (Serves (λ start. SeesOwn start port.now.view (D.means disk.old)) ((D.means disk.old).key ≢ port.now.view) draft.old draft.new) }
-    ensures stops { IfErr result (λ error. Stops error draft.old draft.new) }
-{
-    let Request {
-        client,
-        number,
-        asked,
-    } = request;
-    match asked {
-        Asked::Want(want) => serve_want(alloc, draft, port, disk, client, number, &want),
-        Asked::Change(call) => {
-            let blocked = serve_change(alloc, draft, client, number, call)?;
+        Asked::Change(_) => {
+            let blocked = serve_change(alloc, draft, client, number)?;
             Ok(blocked)
         }
     }

@@ -3,7 +3,6 @@ use Rattle.std.proofs.Common.{◌≡◌, ◌≤◌, ◌<◌, ◌+◌, ◌++◌, 
 use Rattle.std.proofs.lemmas.Bool.{cases_eq, eq-eqb, ne_eqb}
 use Rattle.std.proofs.lemmas.List.{get_or-set_same, get_or-set_other}
 use Rattle.cal_base.specs.declared.identity.ClientId.{ClientId}
-use Rattle.message.specs.declared.message.Message.{Message}
 use Rattle.message.specs.declared.message.Message.TheVariants.{Admit, Ask}
 use Rattle.rebuild.specs.Collecting.{asking, client, is_to_ask, next_of}
 use Rattle.rebuild.specs.declared.reporting.Reporting.{Reporting}

@@ -30,6 +30,16 @@ impl From<Oom> for TakeError {
     }
 }
 
+/// The entry of a call, as a line tells it.
+#[derive(Drop)]
+struct Entering {
+    client: ClientId,
+    number: u64,
+    new_ino: Option<Ino>,
+    /// The reply as it is written.
+    reply: Blob,
+}
+
 /// What is kept of the lines of a text so far: the tree that their history makes, and where the last call
 /// of each of the 16 clients stands.
 #[derive(Drop)]
@@ -90,7 +100,12 @@ impl Judge {
                 number,
                 new_ino,
                 reply,
-            } => self.enter(client, number, new_ino, reply),
+            } => self.enter(Entering {
+                client,
+                number,
+                new_ino,
+                reply,
+            }),
             Told::Flushes { client, ino } => self.apply(&Entry::Flush { client, ino }),
             Told::Purges { client } => self.apply(&Entry::Purge { client }),
             Told::Answers {
@@ -118,30 +133,18 @@ impl Judge {
         Ok(())
     }
 
-    /// Takes the entry of a client's last call, with a reply that is written so.
-    fn enter(
-        &mut self,
-        client: ClientId,
-        number: u64,
-        new_ino: Option<Ino>,
-        text: Blob,
-    ) -> Result<(), TakeError>
-        ensures ok { OnOk result (EntersIn self.old client number new_ino text self.new) }
-        ensures illegal { IsErrOf result TakeError.Illegal → IsClient client → CannotEnter self.old.tree (standing_of self.old client) client number new_ino text }
+    /// Takes the entry of a client's last call.
+    fn enter(&mut self, entering: Entering) -> Result<(), TakeError>
+        ensures ok { OnOk result (EntersIn self.old entering.client entering.number entering.new_ino entering.reply self.new) }
+        ensures illegal { IsErrOf result TakeError.Illegal → IsClient entering.client → CannotEnter self.old.tree (standing_of self.old entering.client) entering.client entering.number entering.new_ino entering.reply }
         ensures same { IsErrOf result TakeError.Illegal → self.new ≡ self.old }
     {
+        let client = entering.client;
         if client.0 >= CLIENTS {
             return Err(TakeError::Illegal);
         }
-        enter_at(
-            self.alloc,
-            &mut self.tree,
-            &mut self.standings[client.0 as usize],
-            client,
-            number,
-            new_ino,
-            text,
-        )
+        let standing = &mut self.standings[client.0 as usize];
+        enter_at(self.alloc, &mut self.tree, standing, entering)
     }
 
     /// Takes the answer of a client's last call, with a reply that is written so.
@@ -195,23 +198,18 @@ fn enter_at(
     alloc: Global,
     tree: &mut PlainTree,
     standing: &mut Standing,
-    client: ClientId,
-    number: u64,
-    new_ino: Option<Ino>,
-    text: Blob,
+    entering: Entering,
 ) -> Result<(), TakeError>
-    ensures ok { OnOk result (Enters tree.old standing.old client number new_ino text tree.new standing.new) }
-    ensures illegal { IsErrOf result TakeError.Illegal → CannotEnter tree.old standing.old client number new_ino text }
+    ensures ok { OnOk result (Enters tree.old standing.old entering.client entering.number entering.new_ino entering.reply tree.new standing.new) }
+    ensures illegal { IsErrOf result TakeError.Illegal → CannotEnter tree.old standing.old entering.client entering.number entering.new_ino entering.reply }
     ensures same_tree { IsErrOf result TakeError.Illegal → tree.new ≡ tree.old }
     ensures same { IsErrOf result TakeError.Illegal → standing.new ≡ standing.old }
 {
-    if standing.number != number {
+    if standing.number != entering.number {
         return Err(TakeError::Illegal);
     }
     match mem::replace(&mut standing.progress, Progress::Answered) {
-        Progress::Started(call) => {
-            enter_call(alloc, tree, standing, client, number, call, new_ino, text)
-        }
+        Progress::Started(call) => enter_call(alloc, tree, standing, call, entering),
         Progress::Entered(reply) => {
             standing.progress = Progress::Entered(reply);
             Err(TakeError::Illegal)
@@ -225,17 +223,20 @@ fn enter_call(
     alloc: Global,
     tree: &mut PlainTree,
     standing: &mut Standing,
-    client: ClientId,
-    number: u64,
     call: Call,
-    new_ino: Option<Ino>,
-    text: Blob,
+    entering: Entering,
 ) -> Result<(), TakeError>
-    ensures ok { OnOk result (CarriesOut tree.old client number call new_ino text tree.new standing.new) }
-    ensures illegal { IsErrOf result TakeError.Illegal → CannotCarryOut tree.old client call new_ino text }
+    ensures ok { OnOk result (CarriesOut tree.old entering.client entering.number call entering.new_ino entering.reply tree.new standing.new) }
+    ensures illegal { IsErrOf result TakeError.Illegal → CannotCarryOut tree.old entering.client call entering.new_ino entering.reply }
     ensures same_tree { IsErrOf result TakeError.Illegal → tree.new ≡ tree.old }
-    ensures same { IsErrOf result TakeError.Illegal → standing.new ≡ record { number = number; progress = Progress.Started call } }
+    ensures same { IsErrOf result TakeError.Illegal → standing.new ≡ record { number = entering.number; progress = Progress.Started call } }
 {
+    let Entering {
+        client,
+        number,
+        new_ino,
+        reply: text,
+    } = entering;
     let Some(reply) = reading(alloc, tree, client, &call, &text)? else {
         put(standing, number, Progress::Started(call));
         return Err(TakeError::Illegal);

@@ -3,3 +3,4 @@ pub mod Words
 pub mod Places
 pub mod Replies
 pub mod Telling
+pub mod Spelling

@@ -5,14 +5,17 @@
 //!
 //! The grammar stands in specs/, from below: Words cuts a line at its single spaces, Places and Replies
 //! say what has to stand at a place, Telling reads the line. Each function computes the definition of its
-//! name.
+//! name. Spelling says which words a line has that tells this or that; the laws say that they are read
+//! back, and that what is read is within the limits of its places.
 #![tactic(auto)]
 
+mod laws;
 mod places;
 mod read_error;
 mod reading;
 mod replies;
 mod words;
 
+pub use laws::{each_telling_has_its_line, what_is_told_is_within_limits};
 pub use read_error::ReadToldError;
 pub use reading::read_told;

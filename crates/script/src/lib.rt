@@ -5,6 +5,8 @@
 //!   [`BadWhy`], in the order in which reasons are tried).
 //! - [`read_line`] reads one line by the whole grammar, served or not, and [`read_call`] a call without
 //!   its client. What is read is a [`Said`], a [`Line`] or a `Call`.
+//! - [`number_in`], [`client_in`] and [`are_hex_digits`] read or test one word, for other texts that are
+//!   written with the same words.
 //! - After want of memory nothing is said of the bytes.
 //!
 //! The grammar stands in specs/, from below: Lines and Words cut the bytes, Numbers and Places read one
@@ -30,6 +32,8 @@ mod words;
 pub use bad_line::{BadLine, BadWhy};
 pub use call_line::read_call;
 pub use laws::{each_line_has_its_words, what_is_read_has_words};
+pub use numbers::{are_hex_digits, number_in};
+pub use places::client_in;
 pub use read_error::ReadLineError;
 pub use reading::{ReadScriptError, read_line, read_script};
 pub use script::{How, Line, Said, Script};

@@ -56,7 +56,7 @@ fn one_digit_more(front: u64, digit: u8) -> Option<u64>
 }
 
 /// A number from the least to the most: `0`, or digits without a leading 0.
-pub(crate) fn number_in(least: u64, most: u64, word: &[u8]) -> Result<u64, BadWhy>
+pub fn number_in(least: u64, most: u64, word: &[u8]) -> Result<u64, BadWhy>
     ensures said { result ≡ number_in least most word.now }
     ensures within { IfOk result (λ value. (least ≤ value) × (value ≤ most)) }
 {
@@ -86,7 +86,8 @@ fn is_hex_digit(byte: u8) -> bool
     is_digit(byte) || (byte >= b'a' && byte <= b'f')
 }
 
-fn are_hex_digits(word: &[u8]) -> bool
+/// Whether a word is of hexadecimal digits alone: 0 to 9 and a to f.
+pub fn are_hex_digits(word: &[u8]) -> bool
     ensures { result ≡ list_all is_hex_digit word.now }
 {
     word.iter().all(|byte| is_hex_digit(*byte))

@@ -32,7 +32,7 @@ fn client_of(number: Result<u64, BadWhy>) -> Result<ClientId, BadWhy>
 }
 
 /// A client: `c0` to `c15`.
-pub(crate) fn client_in(word: &[u8]) -> Result<ClientId, BadWhy>
+pub fn client_in(word: &[u8]) -> Result<ClientId, BadWhy>
     ensures { result ≡ client_in word.now }
 {
     match word {

@@ -1,0 +1,6 @@
+pub mod Outcome
+pub mod Words
+pub mod Places
+pub mod Replies
+pub mod Telling
+pub mod Spelling

@@ -1,5 +1,5 @@
 -- A server of one view: what it is between two steps, and what it has at its first.
-use Rattle.std.specs.Prelude.{◌≡◌, ◌≢◌, ◌+◌, ◌*◌, ◌^◌, ◌<◌, ◌≤◌, [], ℕ, Result, Ok, Err, length}
+use Rattle.std.specs.Prelude.{◌≡◌, ◌+◌, ◌*◌, ◌^◌, ◌<◌, ◌≤◌, [], ℕ, Result, Ok, Err, length}
 use Rattle.cal_base.specs.Limits.{clients}
 use Rattle.cal_base.specs.declared.identity.ClientId.{ClientId}
 use Rattle.cal_base.specs.declared.identity.ServerId.{ServerId}
@@ -26,10 +26,10 @@ pub record NodeValue : Type 0 where
 abbrev pub view_of : NodeValue → View
 view_of n = record { 0 = n.port.view }
 
--- a client is told at most so much for each step that was made, and once more: what its session has made, and an
--- answer for each request that waits
+-- for each step that was made, and once more, a client's session makes at most so much: a step for the packet that comes
+-- in, and one for each message that goes out. An answer for each request that waits is counted in
 abbrev pub HasRoomFor : NodeValue → ClientId → Type 0
-HasRoomFor n client = (session_at n.mail client).steps + length n.desk.requests ≤ (n.steps + 1) * 2 ^ 11
+HasRoomFor n client = (session_at n.mail client).steps + length n.desk.requests ≤ (n.steps + 1) * (2 ^ 11 + 1)
 
 -- its sessions are those of the server with the clients, in its view, nothing is sent, and what they make is counted
 pub record IsNode (n : NodeValue) : Type 0 where

@@ -16,8 +16,9 @@ use Rattle.cluster_law.specs.declared.node.ServerInput.{ServerInput}
 use Rattle.cluster_law.specs.declared.step.Halt.{Halt}
 use Rattle.cluster_law.specs.declared.step.Halt.TheVariants.{Fenced, Failed, Stopped, Damaged}
 use Rattle.lane_facts.specs.Speaking.{opened_by, packets_with}
+use Rattle.server_draft.specs.Acts.{told_to}
 use Rattle.server_draft.specs.declared.act.Act.{Act}
-use Rattle.server_mail.specs.Step.{AllGoOut, GoesOut, bodies_to, is_owed, packets_to, told_to}
+use Rattle.server_mail.specs.Step.{AllGoOut, GoesOut, bodies_to, is_owed, packets_to}
 use Rattle.server_node.specs.Node.{NodeValue, view_of}
 use Rattle.server_node.specs.Step.{again, coming_in, heard_by, hearing_at}
 use Rattle.server_node.specs.declared.coming.Came.{Came}

@@ -1,5 +1,5 @@
 -- A step of a server: what comes, what it sends, and what it does as the law asks.
-use Rattle.std.specs.Prelude.{◌≡◌, ◌+◌, ◌++◌, ◌∷◌, [], ◌<◌, ◌≤◌, ◌&&◌, ℕ, Bool, false, if◌then◌else◌, List, Option, Some, None, All, filter}
+use Rattle.std.specs.Prelude.{◌≡◌, ◌+◌, ◌++◌, ◌∷◌, [], ◌<◌, ◌&&◌, ℕ, false, if◌then◌else◌, List, Option, Some, None, All, filter}
 use Rattle.cal_base.specs.Limits.{clients}
 use Rattle.cal_base.specs.declared.identity.ClientId.{ClientId}
 use Rattle.client_sessions.specs.Mail.{is_to, session_at}

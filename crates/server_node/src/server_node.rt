@@ -18,7 +18,7 @@ use crate::coming::{Came, come};
 use crate::planning::plan;
 use crate::sending::send;
 use cal_base::{CLIENTS, ClientId, ServerId, View};
-use client_sessions::ClientSessions;
+use client_sessions::{ClientSessions, sessions_stay_between};
 use cluster_law::{ServerInput, ServerOutput};
 use fence::Port;
 use image::Image;
@@ -27,7 +27,9 @@ use server_desk::Desk;
 use server_disk::{Carried, carry_out};
 use server_draft::Draft;
 use server_removals::removes_nothing;
-use server_start::{FormatError, Started, StepError, boot, format_volume};
+use server_start::{
+    FormatError, Started, StepError, boot, each_client_is_asked_in_its_session, format_volume,
+};
 use server_turn::Planned;
 use shared_disk::{PortDisk, Stop};
 use std::alloc::Global;
@@ -76,8 +78,12 @@ impl ServerNode {
         ensures disk { Formats clients (D.means disk.old) (D.fault_count disk.old) (formatted result) (D.means disk.new) (D.fault_count disk.new) }
         ensures stands { Told (D.means disk.old) (λ sectors. length sectors ≡ limits.sectors → OnOk result (TellsFresh (D.means disk.new) clients)) }
     {
-        let started = format_volume(alloc, disk, id, clients, window)?;
-        Ok(ServerNode::begin(alloc, id, started))
+        // this law tells that new sessions are those of the server
+        sessions_stay_between();
+        match format_volume(alloc, disk, id, clients, window) {
+            Ok(started) => Ok(ServerNode::begin(alloc, id, started)),
+            Err(error) => Err(error),
+        }
     }
 
     /// Boots a server for a view, on a disk that has a volume: takes the fence, replays the journal, up to the stop if
@@ -101,8 +107,12 @@ impl ServerNode {
             → StandsSo (D.means disk.new) (D.fault_count disk.new) (BootEnds id view window stop before (served result)) }
         ensures oom { result ≡ Err OutOfMemory → IsAsItWas (D.means disk.old) (D.fault_count disk.old) (D.means disk.new) (D.fault_count disk.new) }
     {
-        let (started, output) = boot(alloc, disk, id, view, window, stop)?;
-        Ok((ServerNode::begin(alloc, id, started), output))
+        // this law tells what the sessions are
+        each_client_is_asked_in_its_session();
+        match boot(alloc, disk, id, view, window, stop) {
+            Ok((started, output)) => Ok((ServerNode::begin(alloc, id, started), output)),
+            Err(error) => Err(error),
+        }
     }
 
     /// A server that has made no step.
@@ -158,11 +168,17 @@ impl ServerNode {
             steps,
         } = self;
         let Came { coming, answers } = come(alloc, &mut mail, &image, input)?;
-        let Planned { draft, head } = plan(alloc, desk, image, members, coming, &port, disk)?;
+        let Planned { draft, head } = match plan(alloc, desk, image, members, coming, &port, disk) {
+            Ok(planned) => planned,
+            Err(error) => return Err(error),
+        };
         let Draft { desk, image, acts } = draft;
         let sent = send(&mut mail, acts.as_slice(), answers)?;
         port.arm(stop);
-        let Carried { writes, entries } = carry_out(alloc, &mut port, disk, acts.as_slice())?;
+        let Carried { writes, entries } = match carry_out(alloc, &mut port, disk, acts.as_slice()) {
+            Ok(carried) => carried,
+            Err(error) => return Err(error),
+        };
         Ok((
             ServerNode {
                 alloc,

@@ -1,0 +1,4 @@
+mod Keeping
+mod Makes
+mod Places
+mod Worlds

@@ -14,7 +14,7 @@ use Rattle.script.specs.declared.script.Script.{Script}
 use Rattle.cluster_run.specs.Code.{status_of}
 use Rattle.cluster_run.specs.Text.{line, bad_line}
 use Rattle.cluster_run.specs.Printing.{Held, Prints}
-use Rattle.cluster_run.specs.Reading.{Left, IsTaken, IsReadAll, IsFailed}
+use Rattle.cluster_run.specs.Reading.{Left, IsReadAll, IsFailed}
 use Rattle.cluster_run.specs.Running.{RanOut, unbegun, behind, BeginsRun, some_lines, all_lines, RunsLines}
 use Rattle.cluster_run.specs.ScriptRun.{RunsScript, ToldOut, untold, run_out, BeginsScript, run, refusal, TellsBad}
 use Rattle.cluster_run.specs.Run.{Edge, EndsSo, IsRunCommand, TookAll, IsCutShort, IsStopped, Begins, usage, read_fault, bad_script, steps, ended, nothing, whole_steps}

@@ -4,12 +4,10 @@ use Rattle.std.specs.Fmt.{decimal}
 use Rattle.cal_base.specs.declared.identity.Ino.{Ino}
 use Rattle.tree_law.specs.declared.call.Call.{Call}
 use Rattle.tree_law.specs.declared.reply.Reply.{Reply}
-use Rattle.tree_law.specs.declared.reply.Reply.TheVariants.{Done, Fd, Bytes, Count, File, Dir, Names, Refused}
-use Rattle.tree_law.specs.declared.reply.Why.{Why}
-use Rattle.tree_law.specs.declared.reply.Why.TheVariants.{Exist, NoEnt, NotDir, IsDir, NotEmpty, Inval, Busy, MFile, BadF, FBig, NoSpace, NoInode, DirFull}
 use Rattle.tree_law.specs.declared.entry.Entry.{Entry}
 use Rattle.tree_law.specs.declared.entry.Entry.TheVariants.{Call as Called, Flush, Purge}
-use Rattle.script.specs.Spelling.{command_of, places_of, hex_text}
+pub use Rattle.reply_text.specs.Text.{reply_text, spaced}
+use Rattle.script.specs.Spelling.{command_of, places_of}
 use Rattle.script.specs.declared.bad_line.BadLine.{BadLine}
 use Rattle.script.specs.declared.bad_line.BadWhy.{BadWhy}
 use Rattle.script.specs.declared.bad_line.BadWhy.TheVariants.{Big, Many, Long, Byte, First, Word, Count as Counted, Number, Path, Hex, Unbuilt}
@@ -20,44 +18,9 @@ use Rattle.cluster_run.specs.Trace.{Step}
 abbrev pub line : List ℕ → List ℕ
 line text = text ++ 10 ∷ []
 
--- each word after a space
-abbrev pub spaced : List (List ℕ) → List ℕ
-spaced [] = []
-spaced (word ∷ words) = 32 ∷ (word ++ spaced words)
-
 -- a call as a script spells it
 abbrev pub call_text : Call → List ℕ
 call_text call = command_of call ++ spaced (places_of call)
-
-abbrev pub why_text : Why → List ℕ
-why_text Exist = codes "EEXIST"
-why_text NoEnt = codes "ENOENT"
-why_text NotDir = codes "ENOTDIR"
-why_text IsDir = codes "EISDIR"
-why_text NotEmpty = codes "ENOTEMPTY"
-why_text Inval = codes "EINVAL"
-why_text Busy = codes "EBUSY"
-why_text MFile = codes "EMFILE"
-why_text BadF = codes "EBADF"
-why_text FBig = codes "EFBIG"
-why_text (NoSpace free needed) = codes "NOSPACE " ++ decimal free ++ codes " " ++ decimal needed
-why_text NoInode = codes "NOINODE"
-why_text DirFull = codes "DIRFULL"
-
--- the count of bytes, and then the bytes in hexadecimal
-abbrev pub bytes_text : List ℕ → List ℕ
-bytes_text [] = codes "ok 0"
-bytes_text (byte ∷ bytes) = codes "ok " ++ decimal (length (byte ∷ bytes)) ++ codes " " ++ hex_text (byte ∷ bytes)
-
-abbrev pub reply_text : Reply → List ℕ
-reply_text Done = codes "ok"
-reply_text (Fd fd) = codes "ok " ++ decimal fd
-reply_text (Bytes bytes) = bytes_text bytes
-reply_text (Count count) = codes "ok " ++ decimal count
-reply_text (File size) = codes "ok file " ++ decimal size
-reply_text Dir = codes "ok dir"
-reply_text (Names names) = codes "ok " ++ decimal (length names) ++ spaced names
-reply_text (Refused why) = why_text why
 
 -- the new inode, or a dash
 abbrev pub new_text : Option Ino → List ℕ

@@ -1,46 +1,16 @@
-ghost use Rattle.std.specs.Prelude.{◌≡◌, ◌<◌, ◌++◌, ◌∷◌, [], codes, IfOk, OnOk};
+ghost use Rattle.std.specs.Prelude.{◌≡◌, ◌++◌, ◌∷◌, [], codes, IfOk, OnOk};
 ghost use Rattle.std.specs.Fmt.{decimal};
 ghost use Rattle.tree_law.specs.Path.{path_text, slashed};
 ghost use Rattle.tree_law.specs.declared.entry.Entry.TheVariants.{Call as Called};
-ghost use Rattle.script.specs.Spelling.{command_of, places_of, mode_word, hex_digit, hex_text};
-ghost use Rattle.cluster_run.specs.Text.{line, call_text, why_text, spaced, bytes_text, reply_text, new_text, step_line, entry_front, call_entry_line, answer_line, step_text, bad_why_text, bad_line};
+ghost use Rattle.script.specs.Spelling.{command_of, places_of, mode_word, hex_text};
+ghost use Rattle.cluster_run.specs.Text.{line, call_text, spaced, new_text, step_line, entry_front, call_entry_line, answer_line, step_text, bad_why_text, bad_line};
 
 use crate::serve::Served;
-use cal_base::{Blob, ClientId, Ino, NameList, Oom};
+use cal_base::{Blob, ClientId, Ino, Oom};
+use reply_text::{put, put_bytes, put_field, put_hex, put_number, put_reply};
 use script::{BadLine, BadWhy};
 use std::alloc::Global;
-use tree_law::{Call, Mode, Path, Reply, Why};
-
-/// Puts bytes behind a text.
-fn put_bytes(text: &mut Vec<u8>, bytes: &[u8]) -> Result<(), Oom>
-    ensures { OnOk result (text.new.items ≡ text.old.items ++ bytes.now) }
-{
-    text.extend_from_slice(bytes)?;
-    Ok(())
-}
-
-/// Puts words behind a text.
-fn put(text: &mut Vec<u8>, words: &str) -> Result<(), Oom>
-    ensures { OnOk result (text.new.items ≡ text.old.items ++ words.now) }
-{
-    put_bytes(text, words.as_bytes())
-}
-
-/// Puts a number behind a text, in decimal.
-fn put_number(alloc: Global, text: &mut Vec<u8>, number: u64) -> Result<(), Oom>
-    ensures { OnOk result (text.new.items ≡ text.old.items ++ decimal number) }
-{
-    let digits = number.to_string(alloc)?;
-    put(text, digits.as_str())
-}
-
-/// Puts words and a number behind a text.
-fn put_field(alloc: Global, text: &mut Vec<u8>, words: &str, number: u64) -> Result<(), Oom>
-    ensures { OnOk result (text.new.items ≡ text.old.items ++ words.now ++ decimal number) }
-{
-    put(text, words)?;
-    put_number(alloc, text, number)
-}
+use tree_law::{Call, Mode, Path, Reply};
 
 /// Puts each name behind a slash.
 fn put_slashed(text: &mut Vec<u8>, names: &[Blob]) -> Result<(), Oom>
@@ -77,29 +47,6 @@ fn put_number_word(alloc: Global, text: &mut Vec<u8>, number: u64) -> Result<(),
 {
     put(text, " ")?;
     put_number(alloc, text, number)
-}
-
-/// A hexadecimal digit.
-fn hex_digit(nibble: u8) -> u8
-    requires { nibble < 16 }
-    ensures { result ≡ hex_digit nibble }
-{
-    if nibble < 10 {
-        48 + nibble
-    } else {
-        87 + nibble
-    }
-}
-
-/// Puts bytes in hexadecimal, two digits each.
-fn put_hex(text: &mut Vec<u8>, bytes: &[u8]) -> Result<(), Oom>
-    ensures { OnOk result (text.new.items ≡ text.old.items ++ hex_text bytes.now) }
-{
-    for byte in bytes {
-        text.push(hex_digit(*byte / 16))?;
-        text.push(hex_digit(*byte % 16))?;
-    }
-    Ok(())
 }
 
 /// Puts bytes in hexadecimal behind a space.
@@ -224,77 +171,6 @@ fn put_call(alloc: Global, text: &mut Vec<u8>, call: &Call) -> Result<(), Oom>
 {
     put(text, command(call))?;
     put_places(alloc, text, call)
-}
-
-/// Puts each word behind a space.
-fn put_spaced(text: &mut Vec<u8>, words: &[Blob]) -> Result<(), Oom>
-    ensures { OnOk result (text.new.items ≡ text.old.items ++ spaced words.now) }
-{
-    for word in words {
-        put(text, " ")?;
-        put_bytes(text, word.as_slice())?;
-    }
-    Ok(())
-}
-
-/// Puts bytes that were read, behind their count.
-fn put_read_bytes(alloc: Global, text: &mut Vec<u8>, bytes: &[u8]) -> Result<(), Oom>
-    ensures { OnOk result (text.new.items ≡ text.old.items ++ bytes_text bytes.now) }
-{
-    if bytes.is_empty() {
-        return put(text, "ok 0");
-    }
-    put_field(alloc, text, "ok ", bytes.len() as u64)?;
-    put(text, " ")?;
-    put_hex(text, bytes)
-}
-
-/// Puts the names of a directory behind their count.
-fn put_names(alloc: Global, text: &mut Vec<u8>, names: &NameList) -> Result<(), Oom>
-    ensures { OnOk result (text.new.items ≡ text.old.items ++ reply_text (Reply.Names names.now)) }
-{
-    put_field(alloc, text, "ok ", names.len() as u64)?;
-    put_spaced(text, names.as_slice())
-}
-
-/// Puts why a call is refused.
-fn put_why(alloc: Global, text: &mut Vec<u8>, why: Why) -> Result<(), Oom>
-    ensures { OnOk result (text.new.items ≡ text.old.items ++ why_text why) }
-{
-    match why {
-        Why::Exist => put(text, "EEXIST"),
-        Why::NoEnt => put(text, "ENOENT"),
-        Why::NotDir => put(text, "ENOTDIR"),
-        Why::IsDir => put(text, "EISDIR"),
-        Why::NotEmpty => put(text, "ENOTEMPTY"),
-        Why::Inval => put(text, "EINVAL"),
-        Why::Busy => put(text, "EBUSY"),
-        Why::MFile => put(text, "EMFILE"),
-        Why::BadF => put(text, "EBADF"),
-        Why::FBig => put(text, "EFBIG"),
-        Why::NoSpace { free, needed } => {
-            put_field(alloc, text, "NOSPACE ", u64::from(free))?;
-            put_field(alloc, text, " ", u64::from(needed))
-        }
-        Why::NoInode => put(text, "NOINODE"),
-        Why::DirFull => put(text, "DIRFULL"),
-    }
-}
-
-/// Puts a reply.
-fn put_reply(alloc: Global, text: &mut Vec<u8>, reply: &Reply) -> Result<(), Oom>
-    ensures { OnOk result (text.new.items ≡ text.old.items ++ reply_text reply.now) }
-{
-    match reply {
-        Reply::Done => put(text, "ok"),
-        Reply::Fd(fd) => put_field(alloc, text, "ok ", u64::from(*fd)),
-        Reply::Bytes(bytes) => put_read_bytes(alloc, text, bytes.as_slice()),
-        Reply::Count(count) => put_field(alloc, text, "ok ", u64::from(*count)),
-        Reply::File(size) => put_field(alloc, text, "ok file ", u64::from(*size)),
-        Reply::Dir => put(text, "ok dir"),
-        Reply::Names(names) => put_names(alloc, text, names),
-        Reply::Refused(why) => put_why(alloc, text, *why),
-    }
 }
 
 /// Puts a new inode, or a dash where there is none.

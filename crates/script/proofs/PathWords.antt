@@ -1,12 +1,9 @@
 -- A path's text and its names, both ways.
-use Rattle.std.proofs.Common.{◌≡◌, ◌≢◌, ◌==◌, ◌&&◌, ◌≤◌, ℕ, Bool, not, true, false, List, [], ◌∷◌, ◌++◌, length, All, nat_le, refl, sym, ap, ◌∙◌, append-nil, cond, arith, subst, Ok, Err, codes}
-use Rattle.std.specs.List.{slice_split, onto_first, list_all}
+use Rattle.std.proofs.Common.{◌≡◌, ◌==◌, ◌&&◌, ℕ, Bool, true, false, List, [], ◌∷◌, ◌++◌, length, All, nat_le, refl, sym, ap, ◌∙◌, cond, arith, subst, Ok, Err}
+use Rattle.std.specs.List.{slice_split, onto_first}
 use Rattle.std.proofs.lemmas.Bool.{and_parts, and_from}
 use Rattle.std.proofs.lemmas.Bool.Decides.{nat_tests}
-use Rattle.std.proofs.lemmas.List.Elements.{All-tail}
 use Rattle.std.proofs.lemmas.List.Sums.{AllPass-from_list_all, list_all-from_AllPass}
-use Rattle.std.proofs.lemmas.List.Splits.{slice_split_none, slice_split_at}
-use Rattle.std.proofs.lemmas.Slice.Eq.{bytes_eq-Decides}
 use Rattle.tree_law.specs.NameTest.{is_name}
 use Rattle.tree_law.specs.Path.{IsPath, IsName, slashed, path_text, IsNoPathText}
 use Rattle.tree_law.proofs.NameTests.{name_passes, passes_name}

@@ -1,11 +1,12 @@
 -- How a call and a line are written, word by word, and which values have words.
-use Rattle.std.specs.Prelude.{◌-◌, ℕ, ◌+◌, ◌/◌, ◌%◌, ◌≤◌, List, [], ◌∷◌, length, nat_lt, if◌then◌else◌, All, codes, decimal, ⊤}
+use Rattle.std.specs.Prelude.{◌-◌, ℕ, ◌≤◌, List, [], ◌∷◌, length, All, codes, decimal, ⊤}
 use Rattle.cal_base.specs.Limits as limits
 use Rattle.cal_base.specs.declared.identity.ClientId.{ClientId}
 use Rattle.cal_base.specs.declared.identity.ServerId.{ServerId}
 use Rattle.cal_base.specs.declared.identity.ServerId.TheVariants.{A, B}
 use Rattle.cal_base.specs.declared.identity.NodeId.{NodeId}
 use Rattle.cal_base.specs.declared.identity.NodeId.TheVariants.{Client, Server}
+pub use Rattle.reply_text.specs.Text.{hex_digit, hex_text}
 use Rattle.tree_law.specs.Path.{IsPath, path_text}
 use Rattle.tree_law.specs.declared.call.Call.{Call}
 use Rattle.tree_law.specs.declared.call.Call.TheVariants.{Create, Mkdir, Unlink, Rmdir, Rename, Open, Close, Read, Write, Truncate, Stat, Readdir, Fsync}
@@ -17,15 +18,6 @@ use Rattle.script.specs.declared.script.Line.{Line}
 use Rattle.script.specs.declared.script.Line.TheVariants.{Call as Calls, Deliver, Drop, Pass, Cut, Mend, Tick, Crash, Gone, View, WriteBack, Stop, Settle}
 use Rattle.script.specs.declared.script.Said.{Said}
 use Rattle.script.specs.declared.script.Said.TheVariants.{Nothing, Clients, Window, Line as Does}
-
--- a hexadecimal digit
-abbrev pub hex_digit : ℕ → ℕ
-hex_digit nibble = if nat_lt nibble 10 then 48 + nibble else 87 + nibble
-
--- two digits for each byte, the high half first
-abbrev pub hex_text : List ℕ → List ℕ
-hex_text [] = []
-hex_text (byte ∷ bytes) = hex_digit (byte / 16) ∷ hex_digit (byte % 16) ∷ hex_text bytes
 
 abbrev pub client_word : ClientId → List ℕ
 client_word client = 99 ∷ decimal client.0

@@ -1,0 +1,5 @@
+pub mod Lines
+pub mod Fits
+pub mod Judging
+pub mod Steps
+pub mod Turns

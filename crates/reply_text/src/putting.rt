@@ -1,0 +1,71 @@
+ghost use Rattle.std.specs.Prelude.{◌≡◌, ◌<◌, ◌++◌, OnOk};
+ghost use Rattle.std.specs.Fmt.{decimal};
+ghost use Rattle.reply_text.specs.Text.{hex_digit, hex_text, spaced};
+
+use cal_base::{Blob, Oom};
+use std::alloc::Global;
+
+/// Puts bytes behind a text.
+pub fn put_bytes(text: &mut Vec<u8>, bytes: &[u8]) -> Result<(), Oom>
+    ensures { OnOk result (text.new.items ≡ text.old.items ++ bytes.now) }
+{
+    text.extend_from_slice(bytes)?;
+    Ok(())
+}
+
+/// Puts words behind a text.
+pub fn put(text: &mut Vec<u8>, words: &str) -> Result<(), Oom>
+    ensures { OnOk result (text.new.items ≡ text.old.items ++ words.now) }
+{
+    put_bytes(text, words.as_bytes())
+}
+
+/// Puts a number behind a text, in decimal.
+pub fn put_number(alloc: Global, text: &mut Vec<u8>, number: u64) -> Result<(), Oom>
+    ensures { OnOk result (text.new.items ≡ text.old.items ++ decimal number) }
+{
+    let digits = number.to_string(alloc)?;
+    put(text, digits.as_str())
+}
+
+/// Puts words and a number behind a text.
+pub fn put_field(alloc: Global, text: &mut Vec<u8>, words: &str, number: u64) -> Result<(), Oom>
+    ensures { OnOk result (text.new.items ≡ text.old.items ++ words.now ++ decimal number) }
+{
+    put(text, words)?;
+    put_number(alloc, text, number)
+}
+
+/// Puts each word behind a space.
+pub fn put_spaced(text: &mut Vec<u8>, words: &[Blob]) -> Result<(), Oom>
+    ensures { OnOk result (text.new.items ≡ text.old.items ++ spaced words.now) }
+{
+    for word in words {
+        put(text, " ")?;
+        put_bytes(text, word.as_slice())?;
+    }
+    Ok(())
+}
+
+/// A hexadecimal digit.
+fn hex_digit(nibble: u8) -> u8
+    requires { nibble < 16 }
+    ensures { result ≡ hex_digit nibble }
+{
+    if nibble < 10 {
+        48 + nibble
+    } else {
+        87 + nibble
+    }
+}
+
+/// Puts bytes in hexadecimal, two digits each.
+pub fn put_hex(text: &mut Vec<u8>, bytes: &[u8]) -> Result<(), Oom>
+    ensures { OnOk result (text.new.items ≡ text.old.items ++ hex_text bytes.now) }
+{
+    for byte in bytes {
+        text.push(hex_digit(*byte / 16))?;
+        text.push(hex_digit(*byte % 16))?;
+    }
+    Ok(())
+}

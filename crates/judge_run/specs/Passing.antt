@@ -166,16 +166,16 @@ EndsPiece old piece (Finds verdict) new = (left : Option (List ℕ)) (text : Lis
 EndsPiece old piece (TooLong size) new = IsBounded new.judging × (new.judging.before + size ≤ text_bytes) × ((text : List ℕ) → HasRead old text → HasLong new (text ++ piece) size)
 
 -- a line behind these that is too long, as far as it was read
-pub record IsLongSoFar (long : LongLine) (lines : List (List ℕ)) (text : List ℕ) : Type 0 where
+pub record IsLongSoFar (begun : LongLine) (lines : List (List ℕ)) (text : List ℕ) : Type 0 where
   pub line : List ℕ
   pub told : List Told
   pub history : List Entry
   pub fit : AreFit lines told history
-  pub number_is : long.number ≡ length lines + 1
-  pub before_is : long.before ≡ length (text_of lines)
+  pub number_is : begun.number ≡ length lines + 1
+  pub before_is : begun.before ≡ length (text_of lines)
   pub text_is : text ≡ text_of lines ++ line
   pub uncut : IsUncut line
-  pub length_is : long.length ≡ length line
+  pub length_is : begun.length ≡ length line
   pub long : line_bytes < length line
   pub few : length text ≤ text_bytes
 

@@ -1,4 +1,4 @@
-ghost use Rattle.std.specs.Prelude.{◌≡◌, ◌≤◌, ◌<◌, ◌+◌, nat_lt, IfOk};
+ghost use Rattle.std.specs.Prelude.{◌≡◌, ◌≤◌, ◌<◌, ◌+◌, ◌^◌, nat_lt, IfOk};
 ghost use Rattle.judge_run.specs.Passing.{IsBounded, IsBegun, Passes, PassesTold, counted, limit_passed};
 ghost use Rattle.judge_run.specs.Texts.{IsUncut};
 
@@ -69,7 +69,7 @@ impl Judging {
 
     /// The limit that a line of this length passes, its line feed not counted.
     pub(crate) fn limit_passed(&self, length: usize) -> Option<BadTextWhy>
-        requires { IsBounded self.now }
+        requires { self.now.before + length < 2 ^ 64 }
         ensures { result ≡ limit_passed self.now.before length }
     {
         if self.before + length as u64 >= TEXT_BYTES {
@@ -83,7 +83,7 @@ impl Judging {
 
     /// Whether so many bytes behind the lines so far go past the limit of a text.
     pub(crate) fn is_behind(&self, length: usize) -> bool
-        requires { IsBounded self.now }
+        requires { self.now.before + length < 2 ^ 64 }
         ensures { result ≡ nat_lt 17179869184 (self.now.before + length) }
     {
         self.before + length as u64 > TEXT_BYTES

@@ -41,9 +41,13 @@ pub cut_front : (text front : List ℕ) (more : List (List ℕ)) → slice_split
 cut_front text front more e = subst FirstUncut e (first_uncut text)
 
 -- whole lines, the front of a line, and what follows
-pub regroup : (text begun front more : List ℕ) → (text ++ begun) ++ front ++ more ≡ text ++ (begun ++ front) ++ more
-regroup text begun front more = append_assoc text begun (front ++ more) ∙ ap (λ (l : List ℕ). text ++ l) (sym (append_assoc begun front more))
+pub regroup : (text begun front more : List ℕ) → ((text ++ begun) ++ front) ++ more ≡ (text ++ (begun ++ front)) ++ more
+regroup text begun front more = ap (λ (l : List ℕ). l ++ more) (append_assoc text begun front)
 
 -- a whole line behind others, and what follows
-pub behind_line : (text line behind : List ℕ) → (text ++ line ++ 10 ∷ []) ++ behind ≡ text ++ line ++ 10 ∷ behind
-behind_line text line behind = append_assoc text (line ++ 10 ∷ []) behind ∙ ap (λ (l : List ℕ). text ++ l) (append_assoc line (10 ∷ []) behind)
+pub behind_line : (text line behind : List ℕ) → ((text ++ line) ++ (10 ∷ [])) ++ behind ≡ (text ++ line) ++ (10 ∷ behind)
+behind_line text line behind = append_assoc (text ++ line) (10 ∷ []) behind
+
+-- three pieces behind a text
+pub spread : (text first second third : List ℕ) → ((text ++ first) ++ second) ++ third ≡ text ++ ((first ++ second) ++ third)
+spread text first second third = ap (λ (l : List ℕ). l ++ third) (append_assoc text first second) ∙ append_assoc text (first ++ second) third

@@ -13,7 +13,7 @@ use Rattle.judge_run.proofs.Reading.{none_taken, taken_more}
 
 -- the text with a piece that begins with more of the line
 with_piece : (begun : LongLine) (lines : List (List ℕ)) (text piece front more : List ℕ) (so : IsLongSoFar begun lines text) → piece ≡ front ++ more → text ++ piece ≡ text_of lines ++ (so.line ++ front) ++ more
-with_piece begun lines text piece front more so e = ap (λ (p : List ℕ). text ++ p) e ∙ ap (λ (t : List ℕ). t ++ front ++ more) so.text_is ∙ regroup (text_of lines) so.line front more
+with_piece begun lines text piece front more so e = ap (λ (p : List ℕ). text ++ p) e ∙ sym (append_assoc text front more) ∙ ap (λ (t : List ℕ). t ++ front ++ more) so.text_is ∙ regroup (text_of lines) so.line front more
 
 text_size : (begun : LongLine) (lines : List (List ℕ)) (text : List ℕ) → IsLongSoFar begun lines text → length text ≡ begun.before + begun.length
 text_size begun lines text so = let a = ap length so.text_is ∙ length-append (text_of lines) so.line in omega (arith, a, so.before_is, so.length_is)
@@ -33,7 +33,7 @@ long_more begun piece front uncut e within lines text so =
       fit = so.fit;
       number_is = so.number_is;
       before_is = so.before_is;
-      text_is = with_piece begun lines text piece front [] so (e ∙ sym (append-nil front)) ∙ ap (λ (l : List ℕ). text_of lines ++ l) (append-nil (so.line ++ front));
+      text_is = with_piece begun lines text piece front [] so (e ∙ sym (append-nil front)) ∙ append-nil (text_of lines ++ (so.line ++ front));
       uncut = joined_uncut so.line front so.uncut uncut;
       length_is = omega (arith, a, so.length_is);
       long = omega (arith, a, so.long);
@@ -46,8 +46,8 @@ pub long_ends : (begun : LongLine) (piece front behind : List ℕ) → IsUncut f
 long_ends begun piece front behind uncut e short within left lines text so =
     let a = length-append so.line front in
     let b = ap length e ∙ length-append front (10 ∷ behind) in
-    let c = length-append (text_of lines) ((so.line ++ front) ++ 10 ∷ []) in
-    let d = length-append (so.line ++ front) (10 ∷ []) in
+    let c = length-append (text_of lines ++ (so.line ++ front)) (10 ∷ []) in
+    let d = length-append (text_of lines) (so.line ++ front) in
     record {
       line = so.line ++ front;
       uncut = joined_uncut so.line front so.uncut uncut;

@@ -3,7 +3,7 @@ use Rattle.std.proofs.Common.{◌≡◌, ◌≤◌, ◌<◌, ◌+◌, ℕ, List,
 use Rattle.std.specs.Io.KnownBytes.{prepend_known, IsAtEnd}
 use Rattle.cal_base.specs.Faults.{Rose}
 use Rattle.cluster_run.specs.Reading.{Left, IsTaken, IsFailed}
-use Rattle.judge_run.specs.Passing.{Keeps, IsBounded, IsReady, IsFresh, HasRead, HasLong, IsLongSoFar, FindsLong, FindsVerdict, GoesOnLong, IsIllegalLine, IsBadLine, Passes, TakesFront, EndsPiece, TakesPiece, WhyUnjudged}
+use Rattle.judge_run.specs.Passing.{Keeps, IsBounded, IsReady, IsFresh, HasRead, HasLong, IsLongSoFar, FindsLong, FindsVerdict, GoesOnLong, IsIllegalLine, IsBadLine, Passes, TakesFront, EndsPiece, TakesBytes, TakesNext, TakesPiece, WhyUnjudged}
 use Rattle.judge_run.specs.Texts.{text_bytes, line_bytes, piece_bytes, text_of, IsUncut}
 use Rattle.judge_run.specs.Verdicts.{IsFound, IsBad, IsBadText, IsIllegalText, IsBig, IsLong, at_line_feed, at_end}
 use Rattle.judge_run.specs.declared.judging.Passed.{Passed}
@@ -18,7 +18,7 @@ use Rattle.judge_run.specs.declared.verdict.BadTextWhy.{BadTextWhy}
 use Rattle.judge_run.specs.declared.verdict.BadTextWhy.TheVariants.{Big, Long, End, Form}
 use Rattle.judge_run.specs.declared.verdict.Verdict.{Verdict}
 use Rattle.judge_run.specs.declared.verdict.Verdict.TheVariants.{Illegal, Bad}
-use Rattle.judge_run.proofs.Cutting.{none_uncut, joined_uncut, regroup, behind_line}
+use Rattle.judge_run.proofs.Cutting.{none_uncut, joined_uncut, regroup, behind_line, spread}
 
 -- the text with the front of a line, and more
 on_front : (judge : TextJudge) (text front more : List ℕ) (read : HasRead judge text) → text ++ front ++ more ≡ text_of read.lines ++ (judge.begun.items ++ front) ++ more
@@ -41,7 +41,7 @@ big_here judge front number ready uncut short is many left text read =
       bad = record {
         line = judge.begun.items ++ front;
         behind = [];
-        text_is = ap (λ (f : List ℕ). text ++ f) (sym (append-nil front)) ∙ on_front judge text front [] read;
+        text_is = sym (append-nil (text ++ front)) ∙ on_front judge text front [] read;
         uncut = joined_uncut judge.begun.items front ready.uncut uncut;
         through = omega (arith, long, keeps.before_is, many);
         more = omega (arith, whole, text_long, keeps.before_is, many);
@@ -99,8 +99,8 @@ bad_so : (old : TextJudge) (front : List ℕ) (why : BadTextWhy) → IsReady old
 bad_so old front Big ready uncut left text behind short read bad =
     let long = length-append old.begun.items front in
     let text_long : length text ≡ length (text_of read.lines) + length old.begun.items = ap length read.text_is ∙ length-append (text_of read.lines) old.begun.items in
-    let whole = length-append text (front ++ 10 ∷ behind) in
-    let tail = length-append front (10 ∷ behind) in
+    let whole = length-append (text ++ front) (10 ∷ behind) in
+    let tail = length-append text front in
     record {
       line = old.begun.items ++ front;
       behind = 10 ∷ behind;
@@ -114,7 +114,7 @@ bad_so old front Long ready uncut left text behind short read bad = record {
   line = old.begun.items ++ front;
   uncut = joined_uncut old.begun.items front ready.uncut uncut;
   long = bad.1;
-  ends = at_line_feed behind (ended_line old text front behind read) (omega (arith, short)) (let a = length-append (text_of read.lines) ((old.begun.items ++ front) ++ 10 ∷ []) in let b = length-append (old.begun.items ++ front) (10 ∷ []) in omega (arith, a, b, bad.0));
+  ends = at_line_feed behind (ended_line old text front behind read) (omega (arith, short)) (let a = length-append (text_of read.lines ++ (old.begun.items ++ front)) (10 ∷ []) in let b = length-append (text_of read.lines) (old.begun.items ++ front) in omega (arith, a, b, bad.0));
 }
 bad_so old front End ready uncut left text behind short read bad = absurd bad
 bad_so old front Form ready uncut left text behind short read bad = record {
@@ -155,19 +155,19 @@ pub through_line : (old now new : TextJudge) (piece rest front behind : List ℕ
 through_line old now new piece rest front behind through e takes = record {
   ready = takes.0;
   front = through.front ++ front ++ 10 ∷ [];
-  piece_is = through.piece_is ∙ ap (λ (r : List ℕ). through.front ++ r) e ∙ sym (behind_line through.front front behind);
-  read = λ text read. subst (HasRead new) (append_assoc text through.front (front ++ 10 ∷ [])) (takes.1 (text ++ through.front) (through.read text read));
+  piece_is = through.piece_is ∙ ap (λ (r : List ℕ). through.front ++ r) e ∙ sym (append_assoc through.front front (10 ∷ behind)) ∙ sym (behind_line through.front front behind);
+  read = λ text read. subst (HasRead new) (spread text through.front front (10 ∷ [])) (takes.1 (text ++ through.front) (through.read text read));
 }
 
 -- a line of the piece settles the verdict
 pub finds_line : (old now new : TextJudge) (piece rest front behind : List ℕ) (verdict : Verdict) → length piece ≤ 65536 → IsThrough old piece now rest → rest ≡ front ++ 10 ∷ behind → TakesFront now front (Some verdict) new
     → EndsPiece old piece (Finds verdict) new
 finds_line old now new piece rest front behind verdict short through e takes left text read =
-    let whole : piece ≡ through.front ++ front ++ 10 ∷ behind = through.piece_is ∙ ap (λ (r : List ℕ). through.front ++ r) e in
+    let whole : piece ≡ through.front ++ (front ++ (10 ∷ behind)) = through.piece_is ∙ ap (λ (r : List ℕ). through.front ++ r) e in
     let a = length-append through.front (front ++ 10 ∷ behind) in
     let b = length-append front (10 ∷ behind) in
     let few : length front + length behind < piece_bytes = omega (arith, ap length whole, a, b, short) in
-    subst (λ (t : List ℕ). IsFound left t verdict) (append_assoc text through.front (front ++ 10 ∷ behind) ∙ ap (λ (p : List ℕ). text ++ p) (sym whole)) (takes left (text ++ through.front) behind few (through.read text read))
+    subst (λ (t : List ℕ). IsFound left t verdict) (spread text through.front front (10 ∷ behind) ∙ ap (λ (p : List ℕ). text ++ p) (append_assoc through.front front (10 ∷ behind) ∙ sym whole)) (takes left (text ++ through.front) behind few (through.read text read))
 
 rest_of : (old now : TextJudge) (piece rest part text : List ℕ) (through : IsThrough old piece now rest) → rest ≡ part → (text ++ through.front) ++ part ≡ text ++ piece
 rest_of old now piece rest part text through same = append_assoc text through.front part ∙ ap (λ (p : List ℕ). text ++ p) (sym (through.piece_is ∙ ap (λ (r : List ℕ). through.front ++ r) same))
@@ -214,39 +214,37 @@ pub record IsReadSo (first : Left) (judge : TextJudge) (now : Left) : Type 0 whe
 pub fresh_so : (first : Left) (judge : TextJudge) → IsFresh judge → IsReadSo first judge first
 fresh_so first judge fresh = record { text = []; taken = none_taken first; ready = fresh.ready; read = fresh.read }
 
-pub read_on : (first between now : Left) (old new : TextJudge) (buffer : List ℕ) (count : ℕ) → IsReadSo first old between → TakesPiece between buffer count now → EndsPiece old (take count buffer) GoesOn new → IsReadSo first new now
-read_on first between now old new buffer count so piece ends = record {
-  text = so.text ++ take count buffer;
-  taken = taken_more first between now so.text (take count buffer) so.taken piece.read;
-  ready = ends.0;
-  read = ends.1 so.text so.read;
+pub read_on : (first between now : Left) (old new : TextJudge) → IsReadSo first old between → TakesBytes between old GoesOn new now → IsReadSo first new now
+read_on first between now old new so takes = record {
+  text = so.text ++ takes.bytes;
+  taken = taken_more first between now so.text takes.bytes so.taken takes.read;
+  ready = takes.ends.0;
+  read = takes.ends.1 so.text so.read;
 }
 
-pub found_in : (first between now : Left) (old new : TextJudge) (buffer : List ℕ) (count : ℕ) (verdict : Verdict) → IsReadSo first old between → TakesPiece between buffer count now → EndsPiece old (take count buffer) (Finds verdict) new
-    → FindsVerdict first now verdict
-found_in first between now old new buffer count verdict so piece ends = record {
-  text = so.text ++ take count buffer;
-  read = taken_more first between now so.text (take count buffer) so.taken piece.read;
-  found = ends now.left so.text so.read;
+pub found_in : (first between now : Left) (old new : TextJudge) (verdict : Verdict) → IsReadSo first old between → TakesBytes between old (Finds verdict) new now → FindsVerdict first now verdict
+found_in first between now old new verdict so takes = record {
+  text = so.text ++ takes.bytes;
+  read = taken_more first between now so.text takes.bytes so.taken takes.read;
+  found = takes.ends now.left so.text so.read;
 }
 
 -- the source is at its end
-pub found_at_end : (first between now : Left) (judge : TextJudge) (buffer : List ℕ) (count : ℕ) (verdict : Verdict) → count ≡ 0 → IsReadSo first judge between → TakesPiece between buffer count now
-    → ((left : Option (List ℕ)) (text : List ℕ) → HasRead judge text → IsAtEnd left → IsFound left text verdict) → FindsVerdict first now verdict
-found_at_end first between now judge buffer count verdict none so piece ends =
-    let nothing : IsTaken between [] now = subst (λ (n : ℕ). IsTaken between (take n buffer) now) none piece.read in
-    record {
-      text = so.text;
-      read = subst (λ (t : List ℕ). IsTaken first t now) (append-nil so.text) (taken_more first between now so.text [] so.taken nothing);
-      found = ends now.left so.text so.read (piece.ended none);
-    }
+pub found_at_end : (first between now : Left) (old new : TextJudge) (verdict : Verdict) → IsReadSo first old between → TakesNext between old None new now
+    → ((left : Option (List ℕ)) (text : List ℕ) → HasRead new text → IsAtEnd left → IsFound left text verdict) → FindsVerdict first now verdict
+found_at_end first between now old new verdict so takes ends = record {
+  text = so.text;
+  read = subst (λ (t : List ℕ). IsTaken first t now) (append-nil so.text) (taken_more first between now so.text [] so.taken takes.0);
+  found = ends now.left so.text (subst (λ (j : TextJudge). HasRead j so.text) (sym takes.2) so.read) takes.1;
+}
 
 -- the line that was begun is too long
-pub found_long : (first between next now : Left) (old new : TextJudge) (buffer : List ℕ) (count size : ℕ) (line : LongLine) (verdict : Verdict) → line ≡ record { number = new.judging.counts.lines + 1; before = new.judging.before; length = size }
-    → IsReadSo first old between → TakesPiece between buffer count next → EndsPiece old (take count buffer) (TooLong size) new → FindsLong next line now verdict → FindsVerdict first now verdict
-found_long first between next now old new buffer count size line verdict is so piece ends finds =
-    let long = ends.2 so.text so.read in
-    let begun : IsLongSoFar line long.lines (so.text ++ take count buffer) = subst (λ (l : LongLine). IsLongSoFar l long.lines (so.text ++ take count buffer)) (sym is) (record {
+pub found_long : (first between next now : Left) (old new : TextJudge) (size : ℕ) (line : LongLine) (verdict : Verdict) → line ≡ record { number = new.judging.counts.lines + 1; before = new.judging.before; length = size }
+    → IsReadSo first old between → TakesBytes between old (TooLong size) new next → FindsLong next line now verdict → FindsVerdict first now verdict
+found_long first between next now old new size line verdict is so takes finds =
+    let text = so.text ++ takes.bytes in
+    let long = takes.ends.2 so.text so.read in
+    let begun : IsLongSoFar line long.lines text = subst (λ (l : LongLine). IsLongSoFar l long.lines text) (sym is) (record {
       line = long.line;
       told = long.keeps.told;
       history = long.keeps.history;
@@ -260,7 +258,7 @@ found_long first between next now old new buffer count size line verdict is so p
       few = long.few;
     }) in
     record {
-      text = (so.text ++ take count buffer) ++ finds.more;
-      read = taken_more first next now (so.text ++ take count buffer) finds.more (taken_more first between next so.text (take count buffer) so.taken piece.read) finds.read;
-      found = finds.found long.lines (so.text ++ take count buffer) begun;
+      text = text ++ finds.more;
+      read = taken_more first next now text finds.more (taken_more first between next so.text takes.bytes so.taken takes.read) finds.read;
+      found = finds.found long.lines text begun;
     }

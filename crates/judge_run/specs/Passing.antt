@@ -196,6 +196,17 @@ pub record FindsVerdict (old now : Left) (verdict : Verdict) : Type 0 where
   pub read : IsTaken old text now
   pub found : IsFound now.left text verdict
 
+-- a piece was read and taken
+pub record TakesBytes (old : Left) (judge : TextJudge) (end : PieceEnd) (new : TextJudge) (now : Left) : Type 0 where
+  pub bytes : List ℕ
+  pub read : IsTaken old bytes now
+  pub ends : EndsPiece judge bytes end new
+
+-- the source is at its end, or a piece of it was read and taken
+abbrev pub TakesNext : Left → TextJudge → Option PieceEnd → TextJudge → Left → Type 0
+TakesNext old judge None new now = IsTaken old [] now × IsAtEnd now.left × (new ≡ judge)
+TakesNext old judge (Some end) new now = TakesBytes old judge end new now
+
 -- the line of a verdict was printed, or not
 abbrev pub TellsVerdict : Verdict → Held → Status → Held → Type 0
 TellsVerdict verdict before Fine now = (status_of verdict ≡ Fine) × (now.held ≡ append_known before.held (line (verdict_line verdict)))

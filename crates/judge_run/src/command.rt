@@ -2,7 +2,7 @@ ghost use Rattle.std.specs.Prelude.{◌≡◌, ◌+◌, ◌↔◌, IsTrue, lengt
 ghost use Rattle.cluster_run.specs.Printing.{Held};
 ghost use Rattle.cluster_run.specs.Reading.{Left};
 ghost use Rattle.judge_run.specs.Judged.{EndsSo, IsJudgeCommand};
-ghost use Rattle.judge_run.specs.Passing.{FindsVerdict, IsBounded, TellsVerdict, WhyUnjudged};
+ghost use Rattle.judge_run.specs.Passing.{FindsVerdict, IsBounded, IsReady, TakesNext, TellsVerdict, WhyUnjudged};
 
 use crate::long_line::{LongLine, judge_long_line};
 use crate::pieces::{JudgeError, PIECE_BYTES, read_piece};
@@ -73,20 +73,43 @@ fn judge_text<S: Source>(alloc: Global, source: &mut S) -> Result<Verdict, Judge
     let mut judge = TextJudge::new(alloc)?;
     let mut piece = new_piece(alloc)?;
     for _ in 0..u64::MAX {
-        let count = read_piece(source, piece.as_mut_slice())?;
-        if count == 0 {
-            return Ok(judge.end());
-        }
-        match judge.take_piece(alloc, &piece[..count])? {
-            PieceEnd::GoesOn => {}
-            PieceEnd::Finds(verdict) => return Ok(verdict),
-            PieceEnd::TooLong(length) => {
+        match take_next(alloc, source, &mut judge, piece.as_mut_slice()) {
+            Ok(None) => return Ok(judge.end()),
+            Ok(Some(PieceEnd::GoesOn)) => {}
+            Ok(Some(PieceEnd::Finds(verdict))) => return Ok(verdict),
+            Ok(Some(PieceEnd::TooLong(length))) => {
                 let line = long_line(&judge, length);
                 return judge_long_line(source, piece.as_mut_slice(), line);
             }
+            Err(error) => return Err(error),
         }
     }
     Err(JudgeError::OutOfMemory)
+}
+
+/// Reads the next piece of the text, and takes it; nothing at the end of the source.
+fn take_next<S: Source>(
+    alloc: Global,
+    source: &mut S,
+    judge: &mut TextJudge,
+    piece: &mut [u8],
+) -> Result<Option<PieceEnd>, JudgeError>
+    requires room { length piece.old ≡ 65536 }
+    requires ready { IsReady judge.old }
+    ensures ok { IfOk result (λ next. TakesNext (record { left = S.left source.old; faults = S.fault_count source.old }) judge.old next judge.new (record { left = S.left source.new; faults = S.fault_count source.new })) }
+    ensures err { IfErr result (WhyUnjudged (record { left = S.left source.old; faults = S.fault_count source.old }) (record { left = S.left source.new; faults = S.fault_count source.new })) }
+{
+    let count = match read_piece(source, piece) {
+        Ok(count) => count,
+        Err(error) => return Err(error),
+    };
+    if count == 0 {
+        return Ok(None);
+    }
+    match judge.take_piece(alloc, &piece[..count]) {
+        Ok(end) => Ok(Some(end)),
+        Err(Oom) => Err(JudgeError::OutOfMemory),
+    }
 }
 
 /// Room for a piece.

@@ -32,7 +32,10 @@ pub(crate) fn judge_long_line<S: Source>(
 {
     let mut line = line;
     for _ in 0..u64::MAX {
-        let count = read_piece(source, piece)?;
+        let count = match read_piece(source, piece) {
+            Ok(count) => count,
+            Err(error) => return Err(error),
+        };
         if count == 0 {
             return Ok(Verdict::Bad(line.number, BadTextWhy::Long));
         }

@@ -51,12 +51,15 @@ impl TextJudge {
         let mut rest = piece;
         loop {
             let (front, behind) = cut_at(rest, b'\n');
-            let Some(behind) = behind else {
-                return self.put_off(front);
-            };
-            match self.take_front(alloc, front)? {
-                Some(verdict) => return Ok(PieceEnd::Finds(verdict)),
-                None => rest = behind,
+            match behind {
+                None => {
+                    let end = self.put_off(front)?;
+                    return Ok(end);
+                }
+                Some(behind) => match self.take_front(alloc, front)? {
+                    Some(verdict) => return Ok(PieceEnd::Finds(verdict)),
+                    None => rest = behind,
+                },
             }
         }
     }

@@ -1,5 +1,5 @@
 -- What becomes of a judgement line by line, piece by piece, to the end of the text.
-use Rattle.std.proofs.Common.{◌≡◌, ◌≤◌, ◌<◌, ◌+◌, ℕ, List, [], ◌∷◌, ◌++◌, length, take, Option, Some, None, refl, sym, ap, ◌∙◌, append_assoc, append-nil, length-append, subst, arith}
+use Rattle.std.proofs.Common.{◌≡◌, ◌≤◌, ◌<◌, ◌+◌, ℕ, List, [], ◌∷◌, ◌++◌, length, take, Option, Some, None, refl, sym, ap, ◌∙◌, append_assoc, append-nil, length-append, subst, arith, Result, Ok, Err, IfOk, IfErr}
 use Rattle.std.specs.Io.KnownBytes.{prepend_known, IsAtEnd}
 use Rattle.cal_base.specs.Faults.{Rose}
 use Rattle.cluster_run.specs.Reading.{Left, IsTaken, IsFailed}
@@ -262,3 +262,14 @@ found_long first between next now old new size line verdict is so takes finds =
       read = taken_more first next now text finds.more (taken_more first between next so.text takes.bytes so.taken takes.read) finds.read;
       found = finds.found long.lines text begun;
     }
+
+-- the same of what is answered
+pub long_ok : (first between next now : Left) (old new : TextJudge) (size : ℕ) (line : LongLine) (result : Result Verdict JudgeError) → line ≡ record { number = new.judging.counts.lines + 1; before = new.judging.before; length = size }
+    → IsReadSo first old between → TakesBytes between old (TooLong size) new next → IfOk result (FindsLong next line now) → IfOk result (FindsVerdict first now)
+long_ok first between next now old new size line (Ok verdict) is so takes finds = found_long first between next now old new size line verdict is so takes finds
+long_ok first between next now old new size line (Err error) is so takes finds = tt
+
+pub long_err : (first between next now : Left) (old new : TextJudge) (size : ℕ) (result : Result Verdict JudgeError) → IsReadSo first old between → TakesBytes between old (TooLong size) new next → IfErr result (WhyUnjudged next now)
+    → IfErr result (WhyUnjudged first now)
+long_err first between next now old new size (Ok verdict) so takes failed = tt
+long_err first between next now old new size (Err error) so takes failed = unjudged first next now (so.text ++ takes.bytes) error (taken_more first between next so.text takes.bytes so.taken takes.read) failed

@@ -1,4 +1,4 @@
-use Rattle.std.proofs.Common.{refl, sym, ◌∙◌, append-nil, ap, length, arith}
+use Rattle.std.proofs.Common.{refl, sym, ◌∙◌, append-nil, length-append, ◌∷◌, ap, length, arith}
 use Rattle.std.proofs.lemmas.Bool.Decides.{nat_tests}
 use Rattle.judge_run.proofs.Cutting.{cut_front}
 use Rattle.judge_run.proofs.LongLines.{long_more, long_ends, long_big}
@@ -12,7 +12,7 @@ returns-in-Some c =
 pub returns-in-Some-2 : goal.returns-in-Some-2
 returns-in-Some-2 c =
     let whole = rw c.in-Some-2.is at c.cut_at.ensures.whole in
-    (refl, λ left. long_big c.args.line.now c.args.piece.now c.cut_at.result.0.now _ (cut_front c.args.piece.now c.cut_at.result.0.now _ c.cut_at.ensures.parts) whole c.requires.short (grind (arith, nat_tests)) (grind (arith, nat_tests)))
+    (refl, λ left. long_big c.args.line.now c.args.piece.now c.cut_at.result.0.now _ (cut_front c.args.piece.now c.cut_at.result.0.now _ c.cut_at.ensures.parts) whole c.requires.short (grind (arith, nat_tests)) (let e = ap length whole in let a = length-append c.cut_at.result.0.now (10 ∷ c.in-Some-2.field-0.now) in grind (arith, nat_tests)))
 
 pub returns-in-None : goal.returns-in-None
 returns-in-None c =

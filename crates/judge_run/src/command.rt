@@ -70,16 +70,29 @@ fn judge_text<S: Source>(alloc: Global, source: &mut S) -> Result<Verdict, Judge
     ensures ok { IfOk result (FindsVerdict (record { left = S.left source.old; faults = S.fault_count source.old }) (record { left = S.left source.new; faults = S.fault_count source.new })) }
     ensures err { IfErr result (WhyUnjudged (record { left = S.left source.old; faults = S.fault_count source.old }) (record { left = S.left source.new; faults = S.fault_count source.new })) }
 {
-    let mut judge = TextJudge::new(alloc)?;
     let mut piece = new_piece(alloc)?;
+    judge_pieces(alloc, source, piece.as_mut_slice())
+}
+
+/// Judges the text of a source, with room for one piece of it.
+fn judge_pieces<S: Source>(
+    alloc: Global,
+    source: &mut S,
+    piece: &mut [u8],
+) -> Result<Verdict, JudgeError>
+    requires room { length piece.old ≡ 65536 }
+    ensures ok { IfOk result (FindsVerdict (record { left = S.left source.old; faults = S.fault_count source.old }) (record { left = S.left source.new; faults = S.fault_count source.new })) }
+    ensures err { IfErr result (WhyUnjudged (record { left = S.left source.old; faults = S.fault_count source.old }) (record { left = S.left source.new; faults = S.fault_count source.new })) }
+{
+    let mut judge = TextJudge::new(alloc)?;
     for _ in 0..u64::MAX {
-        match take_next(alloc, source, &mut judge, piece.as_mut_slice()) {
+        match take_next(alloc, source, &mut judge, piece) {
             Ok(None) => return Ok(judge.end()),
             Ok(Some(PieceEnd::GoesOn)) => {}
             Ok(Some(PieceEnd::Finds(verdict))) => return Ok(verdict),
             Ok(Some(PieceEnd::TooLong(length))) => {
                 let line = long_line(&judge, length);
-                return judge_long_line(source, piece.as_mut_slice(), line);
+                return judge_long_line(source, piece, line);
             }
             Err(error) => return Err(error),
         }

@@ -1,6 +1,6 @@
 use Rattle.std.proofs.Common.{rules}
 use Rattle.judge_run.proofs.Reading.{unjudged, read_on, found_in, found_at_end, long_ok, long_err}
-use Rattle.judge_run.proofs.command.judge_text.Goals as goal
+use Rattle.judge_run.proofs.command.judge_pieces.Goals as goal
 
 pub returns-in-Ok-None-clause-ok : goal.returns-in-Ok-None-clause-ok
 returns-in-Ok-None-clause-ok g c = found_at_end _ _ _ c.loop.judge c.take_next.new.judge c.end.result c.loop.invariant.0 (rw c.in-Ok-None.field-0-is at c.in-Ok-None.ensures.ok) c.end.ensures

@@ -1,5 +1,5 @@
 -- How a judgement ends, from what it read and what it printed.
-use Rattle.std.proofs.Common.{◌≡◌, ℕ, List, [], ◌∷◌, length, map, get_or, Option, Err, Bor, refl, sym, ap, ◌∙◌, arith, subst, Bool, nat_eq}
+use Rattle.std.proofs.Common.{◌≡◌, ℕ, List, [], ◌∷◌, length, map, get_or, Err, Bor, refl, sym, ap, ◌∙◌, arith, Bool, nat_eq}
 use Rattle.std.specs.Prelude.{codes, IsTrue}
 use Rattle.std.specs.Cmp.Lexicographic.{pointwise}
 use Rattle.std.proofs.lemmas.Slice.Eq.{bytes_eq-Decides}
@@ -16,7 +16,7 @@ use Rattle.cluster_run.specs.declared.status.Status.{Status}
 use Rattle.cluster_run.specs.declared.status.Status.TheVariants.{Ok as Fine, Usage, BadScript, ReadFault, WriteFault, OutOfMemory, Illegal as IllegalStatus, BadText}
 use Rattle.judge_run.specs.Judged.{EndsSo, IsJudgeCommand, FoundSo, IsCutShort, Begins, usage, read_fault, verdict}
 use Rattle.judge_run.specs.Passing.{FindsVerdict, TellsVerdict}
-use Rattle.judge_run.specs.Verdicts.{verdict_line, status_of as told_status}
+use Rattle.judge_run.specs.Verdicts.{verdict_line}
 use Rattle.judge_run.specs.declared.verdict.Verdict.{Verdict}
 use Rattle.judge_run.specs.declared.verdict.Verdict.TheVariants.{Legal, Illegal, Bad}
 

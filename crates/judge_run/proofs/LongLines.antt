@@ -2,8 +2,8 @@
 use Rattle.std.proofs.Common.{◌≡◌, ◌≤◌, ◌<◌, ◌+◌, ℕ, List, [], ◌∷◌, ◌++◌, length, take, Option, Some, None, refl, sym, ap, ◌∙◌, append_assoc, append-nil, length-append, subst, arith}
 use Rattle.cluster_run.specs.Reading.{Left, IsTaken}
 use Rattle.judge_run.specs.Passing.{IsLongSoFar, FindsLong, GoesOnLong, TakesPiece}
-use Rattle.judge_run.specs.Texts.{text_bytes, line_bytes, piece_bytes, text_of, IsUncut}
-use Rattle.judge_run.specs.Verdicts.{IsFound, IsBad, IsBig, IsLong, at_line_feed, at_end}
+use Rattle.judge_run.specs.Texts.{text_bytes, text_of, IsUncut}
+use Rattle.judge_run.specs.Verdicts.{IsBad, IsBig, IsLong, at_line_feed, at_end}
 use Rattle.judge_run.specs.declared.long_line.LongLine.{LongLine}
 use Rattle.judge_run.specs.declared.verdict.BadTextWhy.{BadTextWhy}
 use Rattle.judge_run.specs.declared.verdict.BadTextWhy.TheVariants.{Long}

@@ -1,11 +1,11 @@
 -- What becomes of a judgement line by line, piece by piece, to the end of the text.
-use Rattle.std.proofs.Common.{◌≡◌, ◌≤◌, ◌<◌, ◌+◌, ℕ, List, [], ◌∷◌, ◌++◌, length, take, Option, Some, None, refl, sym, ap, ◌∙◌, append_assoc, append-nil, length-append, subst, arith, Result, Ok, Err, IfOk, IfErr}
+use Rattle.std.proofs.Common.{◌≡◌, ◌≤◌, ◌<◌, ◌+◌, ℕ, List, [], ◌∷◌, ◌++◌, length, Option, Some, None, refl, sym, ap, ◌∙◌, append_assoc, append-nil, length-append, subst, arith, Result, Ok, Err, IfOk, IfErr}
 use Rattle.std.specs.Io.KnownBytes.{prepend_known, IsAtEnd}
 use Rattle.cal_base.specs.Faults.{Rose}
-use Rattle.cluster_run.specs.Reading.{Left, IsTaken, IsFailed}
-use Rattle.judge_run.specs.Passing.{Keeps, IsBounded, IsReady, IsFresh, HasRead, HasLong, IsLongSoFar, FindsLong, FindsVerdict, GoesOnLong, IsIllegalLine, IsBadLine, Passes, TakesFront, EndsPiece, TakesBytes, TakesNext, TakesPiece, WhyUnjudged}
-use Rattle.judge_run.specs.Texts.{text_bytes, line_bytes, piece_bytes, text_of, IsUncut}
-use Rattle.judge_run.specs.Verdicts.{IsFound, IsBad, IsBadText, IsIllegalText, IsBig, IsLong, at_line_feed, at_end}
+use Rattle.cluster_run.specs.Reading.{Left, IsTaken}
+use Rattle.judge_run.specs.Passing.{IsReady, IsFresh, HasRead, HasLong, IsLongSoFar, FindsLong, FindsVerdict, IsBadLine, Passes, TakesFront, EndsPiece, TakesBytes, TakesNext, WhyUnjudged}
+use Rattle.judge_run.specs.Texts.{piece_bytes, text_of, IsUncut}
+use Rattle.judge_run.specs.Verdicts.{IsFound, IsBad, IsBadText, at_line_feed}
 use Rattle.judge_run.specs.declared.judging.Passed.{Passed}
 use Rattle.judge_run.specs.declared.judging.Passed.TheVariants.{Fits, Illegal as CannotCome, Bad as IsBadFor}
 use Rattle.judge_run.specs.declared.long_line.LongLine.{LongLine}
@@ -53,8 +53,7 @@ big_here judge front number ready uncut short is many left text read =
 pub front_fits : (old new : TextJudge) (front : List ℕ) (passed : Passed) → passed ≡ Fits → Passes old.judging (old.begun.items ++ front) passed new.judging → (passed ≡ Fits → new.begun.items ≡ []) → TakesFront old front None new
 front_fits old new front passed e passes cleared =
     let taken : Passes old.judging (old.begun.items ++ front) Fits new.judging = subst (λ (p : Passed). Passes old.judging (old.begun.items ++ front) p new.judging) e passes in
-    let empty = cleared e in
-    (
+    let empty = cleared e in (
       record {
         bounded = taken.0;
         uncut = subst IsUncut (sym empty) none_uncut;

@@ -66,4 +66,3 @@ EndsSo words before now ReadFault = IsJudgeCommand words × IsUnread before now
 EndsSo words before now WriteFault = IsCutShort words before now
 EndsSo words before now OutOfMemory = now.held ≡ before.held
 EndsSo words before now BadScript = ⊥
-

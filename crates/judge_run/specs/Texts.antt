@@ -3,7 +3,7 @@ use Rattle.std.specs.Prelude.{◌≡◌, ◌≢◌, ◌≤◌, ◌+◌, ℕ, All
 use Rattle.tree_law.specs.declared.entry.Entry.{Entry}
 use Rattle.history_check.specs.Fits.{FitTo}
 use Rattle.history_check.specs.declared.told.Told.{Told}
-use Rattle.history_check.specs.declared.told.Told.TheVariants.{Starts, Enters, Flushes, Purges, Answers}
+use Rattle.history_check.specs.declared.told.Told.TheVariants.{Answers}
 use Rattle.text_lines.specs.Telling.{told_in}
 
 -- bytes of a text

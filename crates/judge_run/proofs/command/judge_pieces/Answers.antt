@@ -18,11 +18,11 @@ loop-preserved g c = (read_on _ _ _ c.loop.judge c.take_next.new.judge c.loop.in
 pub returns-in-Ok-Some-TooLong-clause-ok : goal.returns-in-Ok-Some-TooLong-clause-ok
 returns-in-Ok-Some-TooLong-clause-ok g c =
     long_ok _ _ _ _ c.loop.judge c.take_next.new.judge c.in-Ok-Some-TooLong.length c.long_line-line.result c.judge_long_line.result c.long_line-line.ensures c.loop.invariant.0
-      (rw c.in-Ok-Some-TooLong.field-0-0-is at (rw c.in-Ok-Some-TooLong.field-0-is at c.in-Ok-Some-TooLong.ensures.ok))
-      c.judge_long_line.ensures.ok
+    (rw c.in-Ok-Some-TooLong.field-0-0-is at (rw c.in-Ok-Some-TooLong.field-0-is at c.in-Ok-Some-TooLong.ensures.ok))
+    c.judge_long_line.ensures.ok
 
 pub returns-in-Ok-Some-TooLong-clause-err : goal.returns-in-Ok-Some-TooLong-clause-err
 returns-in-Ok-Some-TooLong-clause-err g c =
     long_err _ _ _ _ c.loop.judge c.take_next.new.judge c.in-Ok-Some-TooLong.length c.judge_long_line.result c.loop.invariant.0
-      (rw c.in-Ok-Some-TooLong.field-0-0-is at (rw c.in-Ok-Some-TooLong.field-0-is at c.in-Ok-Some-TooLong.ensures.ok))
-      c.judge_long_line.ensures.err
+    (rw c.in-Ok-Some-TooLong.field-0-0-is at (rw c.in-Ok-Some-TooLong.field-0-is at c.in-Ok-Some-TooLong.ensures.ok))
+    c.judge_long_line.ensures.err

@@ -15,11 +15,11 @@ returns-in-None c =
 pub returns-in-Some-2 : goal.returns-in-Some-2
 returns-in-Some-2 c =
     finds_line c.args.self.now c.loop-self.self c.take_front.new.self c.args.piece.now c.loop-self.rest.now c.cut_at.result.0.now c.in-Some.behind.now c.in-Some-2.verdict c.requires.short c.loop-self.invariant
-      (rw c.in-Some.is at c.cut_at.ensures.whole)
-      (rw c.in-Some-2.is at c.in_ok-verdict-in-Some.ensures)
+    (rw c.in-Some.is at c.cut_at.ensures.whole)
+    (rw c.in-Some-2.is at c.in_ok-verdict-in-Some.ensures)
 
 pub loop-self-preserved : goal.loop-self-preserved
 loop-self-preserved c =
     through_line c.args.self.now c.loop-self.self c.take_front.new.self c.args.piece.now c.loop-self.rest.now c.cut_at.result.0.now c.in-Some.behind.now c.loop-self.invariant
-      (rw c.in-Some.is at c.cut_at.ensures.whole)
-      (rw c.in-None-2.is at c.in_ok-verdict-in-Some.ensures)
+    (rw c.in-Some.is at c.cut_at.ensures.whole)
+    (rw c.in-None-2.is at c.in_ok-verdict-in-Some.ensures)

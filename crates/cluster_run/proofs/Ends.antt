@@ -18,10 +18,10 @@ use Rattle.cluster_run.specs.Reading.{Left, IsReadAll, IsFailed}
 use Rattle.cluster_run.specs.Running.{RanOut, unbegun, behind, BeginsRun, some_lines, all_lines, RunsLines}
 use Rattle.cluster_run.specs.ScriptRun.{RunsScript, ToldOut, untold, run_out, BeginsScript, run, refusal, TellsBad}
 use Rattle.cluster_run.specs.Run.{Edge, EndsSo, IsRunCommand, TookAll, IsCutShort, IsStopped, Begins, usage, read_fault, bad_script, steps, ended, nothing, whole_steps}
-use Rattle.cluster_run.specs.declared.print.PrintError.{PrintError}
-use Rattle.cluster_run.specs.declared.print.PrintError.TheVariants.{WriteFault as NotWritten, OutOfMemory as NoRoom}
+use Rattle.cluster_run.specs.declared.printout.PrintError.{PrintError}
+use Rattle.cluster_run.specs.declared.printout.PrintError.TheVariants.{WriteFault as NotWritten, OutOfMemory as NoRoom}
 use Rattle.cluster_run.specs.declared.status.Status.{Status}
-use Rattle.cluster_run.specs.declared.status.Status.TheVariants.{Ok as Fine, Usage, BadScript, ReadFault, WriteFault, OutOfMemory}
+use Rattle.cluster_run.specs.declared.status.Status.TheVariants.{Ok as Fine, Usage, BadScript, ReadFault, WriteFault, OutOfMemory, Illegal, BadText}
 
 -- the run of a script isn't printed whole
 pub run_failed : (bytes : List ℕ) (script : Script) (before now : Held) (error : PrintError) (status : Status) → status ≡ status_of error → IsScript bytes script → RunsLines script.lines before (Err error) now
@@ -42,6 +42,8 @@ bad_line_told bytes bad before now BadScript is told = record { bad = bad; is_ba
 bad_line_told bytes bad before now ReadFault is told = absurd told
 bad_line_told bytes bad before now WriteFault is told = record { text = line (bad_line bad); begins = refusal bad is; takes = told.0; rose = told.1 }
 bad_line_told bytes bad before now OutOfMemory is told = untold told
+bad_line_told bytes bad before now Illegal is told = absurd told
+bad_line_told bytes bad before now BadText is told = absurd told
 
 abbrev pub edge : Left → Held → Edge
 edge source sink = record { left = source.left; held = sink.held; source_faults = source.faults; sink_faults = sink.faults }
@@ -107,6 +109,8 @@ script_ends words first last before now bytes BadScript is read ran = (is, recor
 script_ends words first last before now bytes ReadFault is read ran = absurd ran
 script_ends words first last before now bytes WriteFault is read ran = cut words (edge first before) (edge last now) ran.text (begins_script words first last before now bytes ran.text is read ran.begins) ran.takes ran.rose
 script_ends words first last before now bytes OutOfMemory is read ran = script_stopped words first last before now bytes is read ran
+script_ends words first last before now bytes Illegal is read ran = absurd ran
+script_ends words first last before now bytes BadText is read ran = absurd ran
 
 -- the same of the bytes as they were handed on
 pub bytes_end : (words : List (List ℕ)) (first last : Left) (before now : Held) (bytes given : List ℕ) (status : Status) → IsRunCommand words → IsReadAll first bytes last → given ≡ bytes → RunsScript given before status now

@@ -14,8 +14,8 @@ use Rattle.cluster_run.specs.Trace.{Step, history, Starts, IsServed}
 use Rattle.cluster_run.specs.Text.{line, step_text, steps_text, run_text, run_line}
 use Rattle.cluster_run.specs.Printing.{Held, Prints}
 use Rattle.cluster_run.specs.Running.{step_of, MadeStep, MakesStep, MakesLine, some_lines, all_lines, unbegun, behind, RunsLines}
-use Rattle.cluster_run.specs.declared.print.PrintError.{PrintError}
-use Rattle.cluster_run.specs.declared.print.PrintError.TheVariants.{WriteFault, OutOfMemory}
+use Rattle.cluster_run.specs.declared.printout.PrintError.{PrintError}
+use Rattle.cluster_run.specs.declared.printout.PrintError.TheVariants.{WriteFault, OutOfMemory}
 use Rattle.script.specs.Served.{is_served_call}
 use Rattle.cluster_run.specs.Serving.{AreServedLines, IsCalm}
 use Rattle.cluster_run.proofs.Calm.{calm_empty, calm_after}

@@ -1,8 +1,8 @@
 use Rattle.std.specs.Prelude.{ℕ}
-use Rattle.cluster_run.specs.declared.print.PrintError.{PrintError}
-use Rattle.cluster_run.specs.declared.print.PrintError.TheVariants.{WriteFault as NotWritten, OutOfMemory as NoRoom}
+use Rattle.cluster_run.specs.declared.printout.PrintError.{PrintError}
+use Rattle.cluster_run.specs.declared.printout.PrintError.TheVariants.{WriteFault as NotWritten, OutOfMemory as NoRoom}
 use Rattle.cluster_run.specs.declared.status.Status.{Status}
-use Rattle.cluster_run.specs.declared.status.Status.TheVariants.{Ok, Usage, BadScript, ReadFault, WriteFault, OutOfMemory}
+use Rattle.cluster_run.specs.declared.status.Status.TheVariants.{Ok, Usage, BadScript, ReadFault, WriteFault, OutOfMemory, Illegal, BadText}
 
 -- the exit status of a program
 abbrev pub code_of : Status → ℕ
@@ -12,6 +12,8 @@ code_of BadScript = 3
 code_of ReadFault = 4
 code_of WriteFault = 5
 code_of OutOfMemory = 7
+code_of Illegal = 11
+code_of BadText = 12
 
 -- how a run ends whose text isn't printed
 abbrev pub status_of : PrintError → Status

@@ -3,8 +3,8 @@ use Rattle.std.specs.Prelude.{◌≡◌, ◌≤◌, ℕ, List, Option, Result, O
 use Rattle.std.specs.Io.KnownBytes.{append_known}
 use Rattle.cal_base.specs.Faults.{Rose}
 use Rattle.cal_base.specs.Sink.{TakesPrefix}
-use Rattle.cluster_run.specs.declared.print.PrintError.{PrintError}
-use Rattle.cluster_run.specs.declared.print.PrintError.TheVariants.{WriteFault, OutOfMemory}
+use Rattle.cluster_run.specs.declared.printout.PrintError.{PrintError}
+use Rattle.cluster_run.specs.declared.printout.PrintError.TheVariants.{WriteFault, OutOfMemory}
 
 -- what a sink holds, and how often it has failed
 pub record Held : Type 0 where

@@ -11,7 +11,7 @@ use Rattle.script.specs.declared.script.Script.{Script}
 use Rattle.cluster_run.specs.Text.{line, run_text, steps_text, bad_line}
 use Rattle.cluster_run.specs.Trace.{Step, history, Follows, OnceEach, AreServed}
 use Rattle.cluster_run.specs.declared.status.Status.{Status}
-use Rattle.cluster_run.specs.declared.status.Status.TheVariants.{Ok, Usage, BadScript, ReadFault, WriteFault, OutOfMemory}
+use Rattle.cluster_run.specs.declared.status.Status.TheVariants.{Ok, Usage, BadScript, ReadFault, WriteFault, OutOfMemory, Illegal, BadText}
 
 -- what the source has left and the sink holds, where they tell it, and how often each has failed
 pub record Edge : Type 0 where
@@ -116,3 +116,5 @@ EndsSo words before now BadScript = IsRunCommand words × IsRefused before now
 EndsSo words before now ReadFault = IsRunCommand words × IsUnread before now
 EndsSo words before now WriteFault = IsCutShort words before now
 EndsSo words before now OutOfMemory = IsStopped words before now
+EndsSo words before now Illegal = ⊥
+EndsSo words before now BadText = ⊥

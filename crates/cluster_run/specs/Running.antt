@@ -15,8 +15,8 @@ use Rattle.cluster_run.specs.Serving.{IsServedReply}
 use Rattle.cluster_run.specs.Text.{step_text, steps_text, run_text}
 use Rattle.cluster_run.specs.Trace.{Step}
 use Rattle.cluster_run.specs.Run.{CarryOut, CarryOutAll}
-use Rattle.cluster_run.specs.declared.print.PrintError.{PrintError}
-use Rattle.cluster_run.specs.declared.print.PrintError.TheVariants.{WriteFault, OutOfMemory}
+use Rattle.cluster_run.specs.declared.printout.PrintError.{PrintError}
+use Rattle.cluster_run.specs.declared.printout.PrintError.TheVariants.{WriteFault, OutOfMemory}
 use Rattle.cluster_run.specs.declared.serve.Served.{Served}
 
 -- the step of a call that was served so

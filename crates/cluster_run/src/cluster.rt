@@ -3,7 +3,7 @@ ghost use Rattle.cluster_run.specs.Run.{EndsSo, IsRunCommand};
 ghost use Rattle.cluster_run.specs.ScriptRun.{RunsScript, TellsBad};
 
 use crate::lines::run_lines;
-use crate::print::print;
+use crate::printout::print;
 use crate::reading::{ReadError, read_all};
 use crate::status::{Status, status_of};
 use crate::text::bad_script_text;

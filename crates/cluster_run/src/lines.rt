@@ -4,7 +4,7 @@ ghost use Rattle.cluster_run.specs.Printing.{Held};
 ghost use Rattle.cluster_run.specs.Serving.{AreServedLines, IsCalm};
 ghost use Rattle.cluster_run.specs.Running.{MakesStep, MakesLine, RunsLines};
 
-use crate::print::{PrintError, print};
+use crate::printout::{PrintError, print};
 use crate::serve::serve;
 use crate::text::{end_text, step_lines};
 use cal_base::{ClientId, Sink};

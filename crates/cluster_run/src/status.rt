@@ -1,7 +1,7 @@
 ghost use Rattle.std.specs.Prelude.{◌≡◌};
 ghost use Rattle.cluster_run.specs.Code.{code_of, status_of};
 
-use crate::print::PrintError;
+use crate::printout::PrintError;
 
 /// How a run ends.
 #[derive(Clone, Copy, Debug, PartialEq, Eq)]
@@ -18,6 +18,10 @@ pub enum Status {
     WriteFault,
     /// Memory ran out.
     OutOfMemory,
+    /// A line of a text that is judged tells what can't come next. A script never ends so.
+    Illegal,
+    /// A line of a text that is judged is outside its form or a limit. A script never ends so.
+    BadText,
 }
 
 impl Status {
@@ -32,12 +36,14 @@ impl Status {
             Status::ReadFault => 4,
             Status::WriteFault => 5,
             Status::OutOfMemory => 7,
+            Status::Illegal => 11,
+            Status::BadText => 12,
         }
     }
 }
 
 /// How a run ends whose text isn't printed.
-pub(crate) fn status_of(error: PrintError) -> Status
+pub fn status_of(error: PrintError) -> Status
     ensures { result ≡ status_of error }
 {
     match error {

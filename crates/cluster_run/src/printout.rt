@@ -1,5 +1,5 @@
 ghost use Rattle.std.specs.Prelude.{◌≡◌, ◌+◌, ◌<◌, ◌≤◌, length, IsErrOf};
-ghost use Rattle.cluster_run.specs.declared.print.PrintError.TheVariants.{OutOfMemory, WriteFault};
+ghost use Rattle.cluster_run.specs.declared.printout.PrintError.TheVariants.{OutOfMemory, WriteFault};
 ghost use Rattle.cluster_run.specs.Printing.{Held, Prints};
 
 use cal_base::{Failed, Oom, Sink};
@@ -71,7 +71,7 @@ fn write_lines<K: Sink>(sink: &mut K, text: &[u8]) -> Result<(), PrintError>
 }
 
 /// Prints a text: takes room for all of it, and then writes it line by line.
-pub(crate) fn print<K: Sink>(sink: &mut K, text: &[u8]) -> Result<(), PrintError>
+pub fn print<K: Sink>(sink: &mut K, text: &[u8]) -> Result<(), PrintError>
     ensures { Prints (record { held = K.held sink.old; faults = K.fault_count sink.old }) text.now result (record { held = K.held sink.new; faults = K.fault_count sink.new }) }
 {
     match sink.reserve(text.len()) {

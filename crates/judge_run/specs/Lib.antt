@@ -1,0 +1,4 @@
+pub mod Judged
+pub mod Passing
+pub mod Texts
+pub mod Verdicts

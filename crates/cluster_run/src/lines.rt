@@ -1,12 +1,13 @@
 ghost use Rattle.std.specs.Prelude.{◌≡◌, ◌+◌, ◌^◌, ◌<◌, true};
 ghost use Rattle.script.specs.Served.{is_served_call, is_served_line};
-ghost use Rattle.cluster_run.specs.Printing.{Held};
+ghost use Rattle.cluster_run.specs.Printing.{Held, Prints};
+ghost use Rattle.cluster_run.specs.Text.{line as text_line, run_line as first_line};
 ghost use Rattle.cluster_run.specs.Serving.{AreServedLines, IsCalm};
 ghost use Rattle.cluster_run.specs.Running.{MakesStep, MakesLine, RunsLines};
 
 use crate::printout::{PrintError, print};
 use crate::serve::serve;
-use crate::text::{end_text, step_lines};
+use crate::text::{end_text, first_text, step_lines};
 use cal_base::{ClientId, Sink};
 use script::Line;
 use std::alloc::Global;
@@ -62,6 +63,14 @@ fn run_line<K: Sink>(
     }
 }
 
+/// Prints the first line.
+fn print_first<K: Sink>(alloc: Global, sink: &mut K) -> Result<(), PrintError>
+    ensures { Prints (record { held = K.held sink.old; faults = K.fault_count sink.old }) (text_line first_line) result (record { held = K.held sink.new; faults = K.fault_count sink.new }) }
+{
+    let first = first_text(alloc)?;
+    print(sink, first.as_slice())
+}
+
 /// Carries out the served lines of a script on a file tree that has the root alone, and prints the text of the
 /// run: the first line, those of each step as it is made, and the last.
 pub(crate) fn run_lines<K: Sink>(
@@ -72,7 +81,7 @@ pub(crate) fn run_lines<K: Sink>(
     requires { AreServedLines lines.now }
     ensures { RunsLines lines.now (record { held = K.held sink.old; faults = K.fault_count sink.old }) result (record { held = K.held sink.new; faults = K.fault_count sink.new }) }
 {
-    if let Err(error) = print(sink, b"run clients 1 window 4\n") {
+    if let Err(error) = print_first(alloc, sink) {
         return Err(error);
     }
     let Ok(mut tree) = PlainTree::new(alloc) else {

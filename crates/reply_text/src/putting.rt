@@ -1,9 +1,8 @@
-ghost use Rattle.std.specs.Prelude.{◌≡◌, ◌<◌, ◌++◌, OnOk};
+ghost use Rattle.std.specs.Prelude.{◌≡◌, ◌<◌, ◌+◌, ◌++◌, ◌∷◌, [], OnOk};
 ghost use Rattle.std.specs.Fmt.{decimal};
 ghost use Rattle.reply_text.specs.Text.{hex_digit, hex_text, spaced};
 
 use cal_base::{Blob, Oom};
-use std::alloc::Global;
 
 /// Puts bytes behind a text.
 pub fn put_bytes(text: &mut Vec<u8>, bytes: &[u8]) -> Result<(), Oom>
@@ -20,20 +19,34 @@ pub fn put(text: &mut Vec<u8>, words: &str) -> Result<(), Oom>
     put_bytes(text, words.as_bytes())
 }
 
-/// Puts a number behind a text, in decimal.
-pub fn put_number(alloc: Global, text: &mut Vec<u8>, number: u64) -> Result<(), Oom>
+/// Puts a digit behind a text.
+fn put_digit(text: &mut Vec<u8>, digit: u64) -> Result<(), Oom>
+    requires { digit < 10 }
+    ensures { OnOk result (text.new.items ≡ text.old.items ++ (48 + digit) ∷ []) }
+{
+    text.push(48 + digit as u8)?;
+    Ok(())
+}
+
+/// Puts a number behind a text, in decimal, digit by digit.
+#[tactic(auto, using(std::proofs::lemmas::Fmt::decimal_digit))]
+pub fn put_number(text: &mut Vec<u8>, number: u64) -> Result<(), Oom>
     ensures { OnOk result (text.new.items ≡ text.old.items ++ decimal number) }
 {
-    let digits = number.to_string(alloc)?;
-    put(text, digits.as_str())
+    if number < 10 {
+        return put_digit(text, number);
+    }
+    put_number(text, number / 10)?;
+    put_digit(text, number % 10)?;
+    Ok(())
 }
 
 /// Puts words and a number behind a text.
-pub fn put_field(alloc: Global, text: &mut Vec<u8>, words: &str, number: u64) -> Result<(), Oom>
+pub fn put_field(text: &mut Vec<u8>, words: &str, number: u64) -> Result<(), Oom>
     ensures { OnOk result (text.new.items ≡ text.old.items ++ words.now ++ decimal number) }
 {
     put(text, words)?;
-    put_number(alloc, text, number)
+    put_number(text, number)
 }
 
 /// Puts each word behind a space.
@@ -63,6 +76,7 @@ fn hex_digit(nibble: u8) -> u8
 pub fn put_hex(text: &mut Vec<u8>, bytes: &[u8]) -> Result<(), Oom>
     ensures { OnOk result (text.new.items ≡ text.old.items ++ hex_text bytes.now) }
 {
+    text.reserve(bytes.len() + bytes.len())?;
     for byte in bytes {
         text.push(hex_digit(*byte / 16))?;
         text.push(hex_digit(*byte % 16))?;

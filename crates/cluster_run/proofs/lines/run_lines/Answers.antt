@@ -28,4 +28,4 @@ returns-in_default-end_text g c = no_end _ _ _ _ _ c.loop-i.invariant
 pub returns : goal.returns
 returns g c =
     let last : c.loop-i.i ≡ length c.args.lines.now = omega arith in
-    ended_by _ _ _ _ _ _ _ _ c.loop-i.invariant last (c.as_slice.ensures.value ∙ c.in-Ok-end_text.ensures) c.print-2.ensures
+    ended_by _ _ _ _ _ _ _ _ c.loop-i.invariant last (c.as_slice.ensures.value ∙ c.in-Ok-end_text.ensures) c.print.ensures

@@ -1,6 +1,6 @@
 use Rattle.std.proofs.Common.{◌≡◌, ℕ, List, ◌++◌, append_assoc}
 use Rattle.std.specs.Fmt.{decimal}
-use Rattle.cluster_run.proofs.text.put_entry_front.Goals as goal
+use Rattle.trace_text.proofs.entries.put_entry_front.Goals as goal
 
 in_turn : (t t1 t2 t3 t4 w1 w2 d2 w3 n : List ℕ) (given client : ℕ) → given ≡ client → t1 ≡ t ++ w1 ++ decimal given → t2 ≡ t1 ++ w2 ++ d2 → t3 ≡ t2 ++ w3 → t4 ≡ t3 ++ n
     → t4 ≡ t ++ (w1 ++ decimal client ++ w2 ++ d2 ++ w3 ++ n)

@@ -1,0 +1,4 @@
+pub mod PlainLines
+pub mod PlainText
+pub mod PlainWords
+pub mod Trimming

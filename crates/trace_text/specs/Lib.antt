@@ -1,0 +1,11 @@
+pub mod Kinds
+pub mod Line
+pub mod Calls
+pub mod Entries
+pub mod Events
+pub mod Names
+pub mod Packets
+pub mod Sectors
+pub mod Serving
+pub mod Steps
+pub mod Runs

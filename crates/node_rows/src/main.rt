@@ -20,31 +20,32 @@
 #![tactic(auto)]
 
 mod clients;
-mod failure;
 mod reading;
 mod text;
 
 use crate::clients::Clients;
-use crate::failure::Failure;
 use crate::reading::{Line, read_line};
-use crate::text::{output_text, refused_text, row_end_text};
+use crate::text::put_output;
 use cal_base::Oom;
+use row_lines::{Failure, Lines};
 use std::alloc::Global;
 use std::io;
 use std::io::{BufRead, BufReader, Write};
 
 /// What a line gives, in lines.
-fn play(alloc: Global, clients: &mut Clients, line: Line) -> Result<Vec<u8>, Oom> {
+fn play(alloc: Global, clients: &mut Clients, line: Line) -> Result<Lines, Oom> {
+    let mut lines = Lines::new(alloc);
     match line {
         Line::Ends => {
             *clients = Clients::new(alloc);
-            row_end_text(alloc)
+            lines.end()?;
         }
         Line::Comes(client, input) => match clients.step(client, input)? {
-            Some(output) => output_text(alloc, client, &output),
-            None => refused_text(alloc),
+            Some(output) => put_output(&mut lines, client, &output)?,
+            None => lines.put_refused()?,
         },
     }
+    Ok(lines)
 }
 
 /// Plays all lines of standard input.
@@ -55,8 +56,8 @@ fn play_all(rt: &(impl Input + Print + AllocGlobal)) -> Result<(), Failure> {
     for line in BufReader::new(alloc, rt.reader())?.lines(alloc) {
         let line = line?;
         let line = read_line(alloc, line.as_str().as_bytes())?;
-        let text = play(alloc, &mut clients, line)?;
-        printed.write_all(text.as_slice())?;
+        let lines = play(alloc, &mut clients, line)?;
+        printed.write_all(lines.as_slice())?;
     }
     Ok(())
 }

@@ -1,9 +1,7 @@
-ghost use Rattle.std.specs.Prelude.{◌<◌, IfOk};
-
-use cal_base::{CLIENTS, ClientId, NodeId, Oom, ServerId, View, cut_at};
+use cal_base::ClientId;
 use cluster_law::ClientInput;
+use row_lines::{behind, byte_in, client_in, packet_in, word_of};
 use script::{BadWhy, ReadLineError, read_call};
-use session::{Body, Packet};
 use std::alloc::Global;
 
 /// A line of the input.
@@ -26,19 +24,13 @@ pub(crate) fn read_line(alloc: Global, text: &[u8]) -> Result<Line, ReadLineErro
     Ok(Line::Comes(client, input))
 }
 
-/// The first word of a text, and what stands behind the space that ends it.
-fn word_of(text: &[u8]) -> (&[u8], &[u8]) {
-    let (word, rest) = cut_at(text, b' ');
-    (word, rest.unwrap_or(&[]))
-}
-
 /// Reads what comes to a client.
 fn read_input(alloc: Global, text: &[u8]) -> Result<ClientInput, ReadLineError> {
     let (word, rest) = word_of(text);
     if word == b"start".as_slice() {
         Ok(ClientInput::Start(read_call(alloc, rest)?))
     } else if word == b"hear".as_slice() {
-        Ok(ClientInput::Packet(read_packet(alloc, rest)?))
+        read_packet(alloc, rest)
     } else if text == b"tick".as_slice() {
         Ok(ClientInput::Tick)
     } else if word == b"writeback".as_slice() {
@@ -48,104 +40,12 @@ fn read_input(alloc: Global, text: &[u8]) -> Result<ClientInput, ReadLineError> 
     }
 }
 
-/// Reads the six words of a packet.
-fn read_packet(alloc: Global, text: &[u8]) -> Result<Packet, ReadLineError> {
-    let (from, text) = word_of(text);
-    let (to, text) = word_of(text);
-    let (view, text) = word_of(text);
-    let (seq, text) = word_of(text);
-    let (ack, body) = word_of(text);
-    Ok(Packet {
-        from: node_in(from)?,
-        to: node_in(to)?,
-        view: View(number_in(view)?),
-        seq: number_in(seq)?,
-        ack: number_in(ack)?,
-        body: body_in(alloc, body)?,
-    })
-}
-
-/// A node: `c0` to `c15`, `A` or `B`.
-fn node_in(word: &[u8]) -> Result<NodeId, BadWhy> {
-    if word == b"A".as_slice() {
-        Ok(NodeId::Server(ServerId::A))
-    } else if word == b"B".as_slice() {
-        Ok(NodeId::Server(ServerId::B))
+/// Reads a packet that ends its line.
+fn read_packet(alloc: Global, text: &[u8]) -> Result<ClientInput, ReadLineError> {
+    let packet = packet_in(alloc, text)?;
+    if behind(6, text).is_empty() {
+        Ok(ClientInput::Packet(packet))
     } else {
-        Ok(NodeId::Client(client_in(word)?))
-    }
-}
-
-/// A client: `c0` to `c15`.
-fn client_in(word: &[u8]) -> Result<ClientId, BadWhy> {
-    let [b'c', number @ ..] = word else {
-        return Err(BadWhy::Word);
-    };
-    let number = byte_in(number)?;
-    if number < CLIENTS {
-        Ok(ClientId(number))
-    } else {
-        Err(BadWhy::Word)
-    }
-}
-
-/// A number in decimal, below 256.
-fn byte_in(word: &[u8]) -> Result<u8, BadWhy> {
-    u8::try_from(number_in(word)?).or(Err(BadWhy::Number))
-}
-
-/// A number in decimal, below 2^64.
-fn number_in(word: &[u8]) -> Result<u64, BadWhy> {
-    str::from_utf8(word)
-        .unwrap_or("")
-        .parse::<u64>()
-        .or(Err(BadWhy::Number))
-}
-
-/// The body of a packet in hexadecimal, or `-` for none.
-fn body_in(alloc: Global, word: &[u8]) -> Result<Body, ReadLineError> {
-    if word == b"-".as_slice() {
-        return Ok(Body::empty());
-    }
-    if word.is_empty() {
-        return Err(ReadLineError::Bad(BadWhy::Count));
-    }
-    Ok(Body::new(alloc, bytes_in(alloc, word)?)?)
-}
-
-/// Bytes in hexadecimal, two digits each.
-fn bytes_in(alloc: Global, digits: &[u8]) -> Result<Vec<u8>, ReadLineError> {
-    let mut bytes = Vec::new(alloc);
-    for pair in digits.chunks(2) {
-        put_byte(&mut bytes, pair)?;
-    }
-    Ok(bytes)
-}
-
-/// Puts the byte of two hexadecimal digits behind others.
-fn put_byte(bytes: &mut Vec<u8>, pair: &[u8]) -> Result<(), ReadLineError> {
-    match pair {
-        [high, low] => {
-            push(bytes, digit_in(*high)? * 16 + digit_in(*low)?)?;
-            Ok(())
-        }
-        [] | [_] | [_, _, _, ..] => Err(ReadLineError::Bad(BadWhy::Hex)),
-    }
-}
-
-/// Puts a byte behind others.
-fn push(bytes: &mut Vec<u8>, byte: u8) -> Result<(), Oom> {
-    bytes.push(byte)?;
-    Ok(())
-}
-
-/// The value of a hexadecimal digit.
-fn digit_in(digit: u8) -> Result<u8, BadWhy>
-    ensures { IfOk result (λ value. value < 16) }
-{
-    match digit {
-        b'0'..=b'9' => Ok(digit - b'0'),
-        b'a'..=b'f' => Ok(digit - b'a' + 10),
-        _ => Err(BadWhy::Hex),
+        Err(ReadLineError::Bad(BadWhy::Count))
     }
 }

@@ -58,12 +58,12 @@ pub(crate) fn verdict_text(alloc: Global, verdict: Verdict) -> Result<Vec<u8>, O
     let mut text = Vec::new(alloc);
     match verdict {
         Verdict::Legal(counts) => {
-            put_field(alloc, &mut text, "legal entries ", counts.entries)?;
-            put_field(alloc, &mut text, " answers ", counts.answers)?;
+            put_field(&mut text, "legal entries ", counts.entries)?;
+            put_field(&mut text, " answers ", counts.answers)?;
         }
-        Verdict::Illegal(number) => put_field(alloc, &mut text, "illegal ", number)?,
+        Verdict::Illegal(number) => put_field(&mut text, "illegal ", number)?,
         Verdict::Bad(number, why) => {
-            put_field(alloc, &mut text, "BadText ", number)?;
+            put_field(&mut text, "BadText ", number)?;
             put(&mut text, " ")?;
             put(&mut text, bad_text_why(why))?;
         }

@@ -1,5 +1,5 @@
 -- The least of what waits for a node, from the least of what waits on each of its links.
-use Rattle.std.proofs.Common.{◌≡◌, ◌⊎◌, ◌+◌, ◌<◌, ◌≤◌, inl, inr, ℕ, Bool, true, false, Option, Some, None, Contains, [], min, nat_lt, if◌then◌else◌, refl, subst, arith}
+use Rattle.std.proofs.Common.{◌≡◌, ◌⊎◌, ◌+◌, ◌<◌, ◌≤◌, inl, inr, ℕ, Bool, true, false, Option, Some, None, Contains, min, nat_lt, if◌then◌else◌, refl, subst, arith}
 use Rattle.std.proofs.lemmas.Bool.{cases_lt}
 use Rattle.cal_base.specs.Limits.{clients}
 use Rattle.cal_base.specs.declared.identity.ClientId.{ClientId}
@@ -7,6 +7,7 @@ use Rattle.cal_base.specs.declared.identity.NodeId.{NodeId}
 use Rattle.cal_base.specs.declared.identity.NodeId.TheVariants.{Client, Server}
 use Rattle.cal_base.specs.declared.identity.ServerId.{ServerId}
 use Rattle.cal_base.specs.declared.identity.ServerId.TheVariants.{A, B}
+use Rattle.packet_links.proofs.Numbers.{no_number}
 use Rattle.packet_links.specs.Links.{LinksValue, Waits, WaitsFor, IsLeast, lesser, first_to, link_at, waiting_of}
 
 -- the least of the numbers of two sets is the lesser of their least
@@ -66,17 +67,13 @@ one_more links server count a b is_a is_b = least-joined (WaitsAmong links serve
         let same : w.client ≡ count = omega (arith, high, below) in
         inr (subst (λ (k : ℕ). Waits links (Client (record { 0 = k })) (Server server) n) same w.waits)
 
--- nothing waits where there is no link
-no_packet : (number : ℕ) → Contains [] number → ⊥
-no_packet number c = let low = c.1 in omega (arith, low)
-
 -- what waits on a client's link waits for one of the clients that there are
 inside : (links : LinksValue) (server : ServerId) (client : ClientId) (number : ℕ) → Waits links (Client client) (Server server) number → client.0 < clients
 inside links server client number w = by (nat_lt client.0 clients) refl
   where
     by : (b : Bool) → nat_lt client.0 clients ≡ b → client.0 < clients
     by true e = grind (arith, e)
-    by false e = absurd (no_packet number (subst (λ (b : Bool). Contains (waiting_of (link_at links (if b then Some (first_to server + client.0) else None))) number) e w))
+    by false e = absurd (no_number number (subst (λ (b : Bool). Contains (waiting_of (link_at links (if b then Some (first_to server + client.0) else None))) number) e w))
 
 -- the least that waits on the links from all clients is the least that waits for the server
 pub all_clients : (links : LinksValue) (server : ServerId) (a : Option ℕ) → IsLeast (WaitsAmong links server clients) a → IsLeast (WaitsFor links (Server server)) a
@@ -87,7 +84,7 @@ all_clients links server a is = least-same (WaitsAmong links server clients) (Wa
   where
     by : (n : ℕ) (from : NodeId) → Waits links from (Server server) n → WaitsAmong links server clients n
     by n (Client client) w = record { client = client.0; below = inside links server client n w; waits = w }
-    by n (Server other) w = absurd (no_packet n w)
+    by n (Server other) w = absurd (no_number n w)
 
 -- a client's two links are those from the two servers
 pub both_servers : (links : LinksValue) (client : ClientId) (a b : Option ℕ) → IsLeast (Waits links (Server A) (Client client)) a → IsLeast (Waits links (Server B) (Client client)) b → IsLeast (WaitsFor links (Client client)) (lesser a b)
@@ -98,6 +95,6 @@ both_servers links client a b is_a is_b = least-joined (Waits links (Server A) (
     is_a is_b
   where
     by : (n : ℕ) (from : NodeId) → Waits links from (Client client) n → Waits links (Server A) (Client client) n ⊎ Waits links (Server B) (Client client) n
-    by n (Client other) w = absurd (no_packet n w)
+    by n (Client other) w = absurd (no_number n w)
     by n (Server A) w = inl w
     by n (Server B) w = inr w

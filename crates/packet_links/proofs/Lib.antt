@@ -1,2 +1,5 @@
+mod Changes
 mod Least
+mod Numbers
+mod Places
 mod Rising

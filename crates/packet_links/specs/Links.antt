@@ -149,3 +149,13 @@ IsRising numbers = IsStrictlySortedBy nat_cmp numbers
 pub record IsLinks (links : List LinkValue) : Type 0 where
   pub count : length links ≡ link_count
   pub rise : All (λ link. IsRising link.waiting) links
+
+-- a packet, of a number from one node to another, is the first packet
+abbrev pub IsPacket : ℕ → NodeId → NodeId → ℕ → NodeId → NodeId → Type 0
+IsPacket first sender hearer number from to = (number ≡ first) × (from ≡ sender) × (to ≡ hearer)
+
+-- there is a link from one node to another, and it isn't cut
+pub record Takes (links : LinksValue) (from to : NodeId) : Type 0 where
+  pub link : LinkValue
+  pub is_there : link_at links (link_between from to) ≡ Some link
+  pub is_whole : link.is_cut ≡ false

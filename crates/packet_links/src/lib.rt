@@ -9,8 +9,13 @@
 //! What each of these means stands in specs/Links.antt.
 #![tactic(auto)]
 
+mod law;
 mod link;
 mod links;
 mod place;
 
+pub use law::{
+    a_cut_loses_its_link, a_mending_brings_nothing, a_removal_takes_its_packet,
+    a_send_adds_its_packet,
+};
 pub use links::Links;

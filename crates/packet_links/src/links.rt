@@ -1,7 +1,7 @@
 ghost use Rattle.std.specs.Prelude.{◌≡◌, ◌<◌, ℕ, Option, IfOk, OnOk, OnErr, slice_get, replicate, take};
 ghost use Rattle.std.specs.Option.{option_copied};
 ghost use Rattle.cal_base.specs.declared.identity.NodeId.TheVariants.{Client, Server};
-ghost use Rattle.packet_links.specs.Links.{idle_link, idle_links, link_count, link_at, link_between, waiting, is_cut, Waits, WaitsFor, IsLeast, lesser, after_send, after_remove, after_cut, after_mend};
+ghost use Rattle.packet_links.specs.Links.{IsLinks, idle_link, idle_links, link_count, link_at, link_between, waiting, is_cut, Waits, WaitsFor, IsLeast, lesser, after_send, after_remove, after_cut, after_mend};
 
 use crate::link::Link;
 use crate::place::{LINKS, link_between};
@@ -91,9 +91,11 @@ impl Links {
     }
 
     /// The least number that waits on the link from one node to another, or none where nothing waits there.
+    /// There are always all 64 links, and on each the numbers rise.
     pub fn first(&self, from: NodeId, to: NodeId) -> Option<u64>
         ensures head { result ≡ slice_get (waiting self.now from to) 0 }
         ensures least { IsLeast (Waits self.now from to) result }
+        ensures formed { IsLinks self.now.links }
     {
         match self.link(from, to) {
             Some(link) => link.first(),
@@ -137,7 +139,8 @@ impl Links {
 
     /// The link from one node to another.
     fn link(&self, from: NodeId, to: NodeId) -> Option<&Link>
-        ensures { option_copied result ≡ link_at self.now (link_between from to) }
+        ensures value { option_copied result ≡ link_at self.now (link_between from to) }
+        ensures formed { IsLinks self.now.links }
     {
         match link_between(from, to) {
             Some(place) => self.links.get(place),

@@ -7,7 +7,8 @@
 #![tactic(auto)]
 
 use cal_base::{Oom, StdSink, StdSource};
-use cluster_run::{Status, run_cluster};
+use cluster_run::run_cluster;
+use run_status::Status;
 use std::env::FillError;
 use std::io;
 use std::process::ExitCode;

@@ -11,17 +11,19 @@ use Rattle.script.specs.Lines.{lines_of}
 use Rattle.script.specs.Script.{IsScript, IsFirstBad}
 use Rattle.script.specs.declared.bad_line.BadLine.{BadLine}
 use Rattle.script.specs.declared.script.Script.{Script}
-use Rattle.cluster_run.specs.Code.{status_of}
+use Rattle.run_status.specs.Code.{status_of}
 use Rattle.cluster_run.specs.Text.{line, bad_line}
-use Rattle.cluster_run.specs.Printing.{Held, Prints}
-use Rattle.cluster_run.specs.Reading.{Left, IsReadAll, IsFailed}
+use Rattle.run_status.specs.Printing.{Held, Prints}
+use Rattle.run_status.specs.Taking.{Left, IsFailed}
+use Rattle.cluster_run.specs.Reading.{IsReadAll}
 use Rattle.cluster_run.specs.Running.{RanOut, unbegun, behind, BeginsRun, some_lines, all_lines, RunsLines}
 use Rattle.cluster_run.specs.ScriptRun.{RunsScript, ToldOut, untold, run_out, BeginsScript, run, refusal, TellsBad}
-use Rattle.cluster_run.specs.Run.{Edge, EndsSo, IsRunCommand, TookAll, IsCutShort, IsStopped, Begins, usage, read_fault, bad_script, steps, ended, nothing, whole_steps}
-use Rattle.cluster_run.specs.declared.printout.PrintError.{PrintError}
-use Rattle.cluster_run.specs.declared.printout.PrintError.TheVariants.{WriteFault as NotWritten, OutOfMemory as NoRoom}
-use Rattle.cluster_run.specs.declared.status.Status.{Status}
-use Rattle.cluster_run.specs.declared.status.Status.TheVariants.{Ok as Fine, Usage, BadScript, ReadFault, WriteFault, OutOfMemory, Illegal, BadText}
+use Rattle.run_status.specs.Edge.{Edge}
+use Rattle.cluster_run.specs.Run.{EndsSo, IsRunCommand, TookAll, IsCutShort, IsStopped, Begins, usage, read_fault, bad_script, steps, ended, nothing, whole_steps}
+use Rattle.run_status.specs.declared.printout.PrintError.{PrintError}
+use Rattle.run_status.specs.declared.printout.PrintError.TheVariants.{WriteFault as NotWritten, OutOfMemory as NoRoom}
+use Rattle.run_status.specs.declared.status.Status.{Status}
+use Rattle.run_status.specs.declared.status.Status.TheVariants.{Ok as Fine, Usage, BadScript, ReadFault, WriteFault, DiskFault, OutOfMemory, KeyTaken, Illegal, BadText}
 
 -- the run of a script isn't printed whole
 pub run_failed : (bytes : List ℕ) (script : Script) (before now : Held) (error : PrintError) (status : Status) → status ≡ status_of error → IsScript bytes script → RunsLines script.lines before (Err error) now
@@ -42,6 +44,8 @@ bad_line_told bytes bad before now BadScript is told = record { bad = bad; is_ba
 bad_line_told bytes bad before now ReadFault is told = absurd told
 bad_line_told bytes bad before now WriteFault is told = record { text = line (bad_line bad); begins = refusal bad is; takes = told.0; rose = told.1 }
 bad_line_told bytes bad before now OutOfMemory is told = untold told
+bad_line_told bytes bad before now DiskFault is told = absurd told
+bad_line_told bytes bad before now KeyTaken is told = absurd told
 bad_line_told bytes bad before now Illegal is told = absurd told
 bad_line_told bytes bad before now BadText is told = absurd told
 
@@ -109,6 +113,8 @@ script_ends words first last before now bytes BadScript is read ran = (is, recor
 script_ends words first last before now bytes ReadFault is read ran = absurd ran
 script_ends words first last before now bytes WriteFault is read ran = cut words (edge first before) (edge last now) ran.text (begins_script words first last before now bytes ran.text is read ran.begins) ran.takes ran.rose
 script_ends words first last before now bytes OutOfMemory is read ran = script_stopped words first last before now bytes is read ran
+script_ends words first last before now bytes DiskFault is read ran = absurd ran
+script_ends words first last before now bytes KeyTaken is read ran = absurd ran
 script_ends words first last before now bytes Illegal is read ran = absurd ran
 script_ends words first last before now bytes BadText is read ran = absurd ran
 

@@ -12,15 +12,15 @@ use Rattle.script.specs.declared.script.Line.{Line}
 use Rattle.script.specs.declared.script.Line.TheVariants.{Call as Calls}
 use Rattle.cluster_run.specs.Trace.{Step, history, Starts, IsServed}
 use Rattle.cluster_run.specs.Text.{line, step_text, steps_text, run_text, run_line}
-use Rattle.cluster_run.specs.Printing.{Held, Prints}
+use Rattle.run_status.specs.Printing.{Held, Prints}
 use Rattle.cluster_run.specs.Running.{step_of, MadeStep, MakesStep, MakesLine, some_lines, all_lines, unbegun, behind, RunsLines}
-use Rattle.cluster_run.specs.declared.printout.PrintError.{PrintError}
-use Rattle.cluster_run.specs.declared.printout.PrintError.TheVariants.{WriteFault, OutOfMemory}
+use Rattle.run_status.specs.declared.printout.PrintError.{PrintError}
+use Rattle.run_status.specs.declared.printout.PrintError.TheVariants.{WriteFault, OutOfMemory}
 use Rattle.script.specs.Served.{is_served_call}
 use Rattle.cluster_run.specs.Serving.{AreServedLines, IsCalm}
 use Rattle.cluster_run.proofs.Calm.{calm_empty, calm_after}
 use Rattle.cluster_run.proofs.ServedLines.{served_at, served_call}
-use Rattle.cluster_run.proofs.Printed.{append_known-append, prefix_last, rose_later}
+use Rattle.run_status.proofs.Printed.{append_known-append, prefix_last, rose_later}
 use Rattle.cluster_run.proofs.Steps.{AreSteps, carry_out}
 
 -- so many lines were carried out and printed, and the tree is theirs

@@ -2,7 +2,6 @@ pub mod Calm
 pub mod Ends
 pub mod Going
 pub mod Plain
-pub mod Printed
 pub mod Steps
 pub mod Taken
 pub mod ServedLines

@@ -2,7 +2,8 @@
 use Rattle.std.proofs.Common.{◌≡◌, ◌≤◌, ◌++◌, ℕ, List, [], length, Option, Some, None, refl, sym, ap, ◌∙◌, subst, arith, append_assoc, inl, inr}
 use Rattle.std.specs.Io.KnownBytes.{prepend_known}
 use Rattle.cal_base.specs.Faults.{Rose}
-use Rattle.cluster_run.specs.Reading.{Left, IsTaken, IsReadAll, WhyUnread, IsPiece, IsNoPiece}
+use Rattle.run_status.specs.Taking.{Left, IsTaken}
+use Rattle.cluster_run.specs.Reading.{IsReadAll, WhyUnread, IsPiece, IsNoPiece}
 use Rattle.cluster_run.specs.declared.reading.ReadError.{ReadError}
 use Rattle.cluster_run.specs.declared.reading.ReadError.TheVariants.{ReadFault, OutOfMemory}
 

@@ -1,5 +1,3 @@
-pub mod Code
-pub mod Printing
 pub mod Reading
 pub mod Run
 pub mod Running

@@ -1,30 +1,15 @@
 -- Reading a source to its end.
-use Rattle.std.specs.Prelude.{◌≡◌, ◌⊎◌, ◌≤◌, ◌++◌, ℕ, List, length, Option}
-use Rattle.std.specs.Io.KnownBytes.{prepend_known, IsAtEnd}
+use Rattle.std.specs.Prelude.{◌≡◌, ◌⊎◌, ◌≤◌, ◌++◌, ℕ, List, length}
+use Rattle.std.specs.Io.KnownBytes.{IsAtEnd}
 use Rattle.cal_base.specs.Faults.{Rose}
+use Rattle.run_status.specs.Taking.{Left, IsTaken, IsFailed}
 use Rattle.cluster_run.specs.declared.reading.ReadError.{ReadError}
 use Rattle.cluster_run.specs.declared.reading.ReadError.TheVariants.{ReadFault, OutOfMemory}
-
--- what a source has left, where it tells it, and how often it has failed
-pub record Left : Type 0 where
-  pub left : Option (List ℕ)
-  pub faults : ℕ
-
--- these bytes were taken
-pub record IsTaken (old : Left) (bytes : List ℕ) (now : Left) : Type 0 where
-  pub taken : old.left ≡ prepend_known bytes now.left
-  pub later : old.faults ≤ now.faults
 
 -- all bytes were taken, or 67,108,865 of them
 pub record IsReadAll (old : Left) (bytes : List ℕ) (now : Left) : Type 0 where
   pub read : IsTaken old bytes now
   pub ended : IsAtEnd now.left ⊎ (length bytes ≡ 67108865)
-
--- the source failed; some bytes were taken before
-pub record IsFailed (old now : Left) : Type 0 where
-  pub bytes : List ℕ
-  pub read : IsTaken old bytes now
-  pub rose : Rose old.faults now.faults
 
 abbrev pub WhyUnread : Left → Left → ReadError → Type 0
 WhyUnread old now ReadFault = IsFailed old now

@@ -1,6 +1,6 @@
 -- How a run ends, what it read and what it wrote.
-use Rattle.std.specs.Prelude.{◌≡◌, ◌⊎◌, ℕ, List, [], ◌∷◌, length, take, codes, Option}
-use Rattle.std.specs.Io.KnownBytes.{prepend_known, append_known, IsAtEnd}
+use Rattle.std.specs.Prelude.{◌≡◌, ◌⊎◌, ℕ, List, [], ◌∷◌, length, take, codes}
+use Rattle.std.specs.Io.KnownBytes.{IsAtEnd}
 use Rattle.cal_base.specs.Faults.{Rose}
 use Rattle.tree_law.specs.Legal.{IsLegal}
 use Rattle.script.specs.Lines.{lines_of}
@@ -8,25 +8,11 @@ use Rattle.script.specs.Script.{IsScript, IsFirstBad}
 use Rattle.script.specs.declared.bad_line.BadLine.{BadLine}
 use Rattle.script.specs.declared.script.Line.{Line}
 use Rattle.script.specs.declared.script.Script.{Script}
+use Rattle.run_status.specs.Edge.{Edge, Took, Wrote, IsUnread}
 use Rattle.cluster_run.specs.Text.{line, run_text, steps_text, bad_line}
 use Rattle.cluster_run.specs.Trace.{Step, history, Follows, OnceEach, AreServed}
-use Rattle.cluster_run.specs.declared.status.Status.{Status}
-use Rattle.cluster_run.specs.declared.status.Status.TheVariants.{Ok, Usage, BadScript, ReadFault, WriteFault, OutOfMemory, Illegal, BadText}
-
--- what the source has left and the sink holds, where they tell it, and how often each has failed
-pub record Edge : Type 0 where
-  pub left : Option (List ℕ)
-  pub held : Option (List ℕ)
-  pub source_faults : ℕ
-  pub sink_faults : ℕ
-
--- the sink has got this text
-abbrev pub Wrote : Edge → Edge → List ℕ → Type 0
-Wrote before now text = now.held ≡ append_known before.held text
-
--- these bytes were taken from the source
-abbrev pub Took : Edge → Edge → List ℕ → Type 0
-Took before now input = before.left ≡ prepend_known input now.left
+use Rattle.run_status.specs.declared.status.Status.{Status}
+use Rattle.run_status.specs.declared.status.Status.TheVariants.{Ok, Usage, BadScript, ReadFault, WriteFault, DiskFault, OutOfMemory, KeyTaken, Illegal, BadText}
 
 -- these bytes were taken, and are all that the source had, or one more than a script may have
 pub record TookAll (before now : Edge) (input : List ℕ) : Type 0 where
@@ -71,13 +57,6 @@ pub record IsRefused (before now : Edge) : Type 0 where
   pub is_bad : IsFirstBad (lines_of input) bad
   pub printed : Wrote before now (line (bad_line bad))
 
--- the source failed while the script was read
-pub record IsUnread (before now : Edge) : Type 0 where
-  pub input : List ℕ
-  pub read : Took before now input
-  pub rose : Rose before.source_faults now.source_faults
-  pub printed : Wrote before now (line (codes "ReadFault"))
-
 -- a text that a run begins to print
 pub data Begins (words : List (List ℕ)) (before now : Edge) : List ℕ → Type 0 where
   usage : ¬ (IsRunCommand words) → now.left ≡ before.left → Begins words before now (line (codes "Usage"))
@@ -116,5 +95,7 @@ EndsSo words before now BadScript = IsRunCommand words × IsRefused before now
 EndsSo words before now ReadFault = IsRunCommand words × IsUnread before now
 EndsSo words before now WriteFault = IsCutShort words before now
 EndsSo words before now OutOfMemory = IsStopped words before now
+EndsSo words before now DiskFault = ⊥
+EndsSo words before now KeyTaken = ⊥
 EndsSo words before now Illegal = ⊥
 EndsSo words before now BadText = ⊥

@@ -10,13 +10,13 @@ use Rattle.tree_law.specs.declared.call.Call.{Call}
 use Rattle.tree_law.specs.declared.entry.Entry.TheVariants.{Call as Called}
 use Rattle.script.specs.declared.script.Line.{Line}
 use Rattle.script.specs.declared.script.Line.TheVariants.{Call as Calls}
-use Rattle.cluster_run.specs.Printing.{Held, Prints}
+use Rattle.run_status.specs.Printing.{Held, Prints}
 use Rattle.cluster_run.specs.Serving.{IsServedReply}
 use Rattle.cluster_run.specs.Text.{step_text, steps_text, run_text}
 use Rattle.cluster_run.specs.Trace.{Step}
 use Rattle.cluster_run.specs.Run.{CarryOut, CarryOutAll}
-use Rattle.cluster_run.specs.declared.printout.PrintError.{PrintError}
-use Rattle.cluster_run.specs.declared.printout.PrintError.TheVariants.{WriteFault, OutOfMemory}
+use Rattle.run_status.specs.declared.printout.PrintError.{PrintError}
+use Rattle.run_status.specs.declared.printout.PrintError.TheVariants.{WriteFault, OutOfMemory}
 use Rattle.cluster_run.specs.declared.serve.Served.{Served}
 
 -- the step of a call that was served so

@@ -7,11 +7,11 @@ use Rattle.script.specs.Lines.{lines_of}
 use Rattle.script.specs.Script.{IsScript, IsFirstBad}
 use Rattle.script.specs.declared.bad_line.BadLine.{BadLine}
 use Rattle.script.specs.declared.script.Script.{Script}
-use Rattle.cluster_run.specs.Printing.{Held}
+use Rattle.run_status.specs.Printing.{Held}
 use Rattle.cluster_run.specs.Running.{RanAll, RanOut, BeginsRun}
 use Rattle.cluster_run.specs.Text.{line, bad_line}
-use Rattle.cluster_run.specs.declared.status.Status.{Status}
-use Rattle.cluster_run.specs.declared.status.Status.TheVariants.{Ok, Usage, BadScript, ReadFault, WriteFault, OutOfMemory, Illegal, BadText}
+use Rattle.run_status.specs.declared.status.Status.{Status}
+use Rattle.run_status.specs.declared.status.Status.TheVariants.{Ok, Usage, BadScript, ReadFault, WriteFault, DiskFault, OutOfMemory, KeyTaken, Illegal, BadText}
 
 -- the bytes are a script that was carried out and printed
 pub record RanScript (bytes : List ℕ) (before now : Held) : Type 0 where
@@ -50,6 +50,8 @@ RunsScript bytes before WriteFault now = ToldShort bytes before now
 RunsScript bytes before OutOfMemory now = ToldOut bytes before now
 RunsScript bytes before Usage now = ⊥
 RunsScript bytes before ReadFault now = ⊥
+RunsScript bytes before DiskFault now = ⊥
+RunsScript bytes before KeyTaken now = ⊥
 RunsScript bytes before Illegal now = ⊥
 RunsScript bytes before BadText now = ⊥
 
@@ -61,5 +63,7 @@ TellsBad bad before OutOfMemory now = now.held ≡ before.held
 TellsBad bad before Ok now = ⊥
 TellsBad bad before Usage now = ⊥
 TellsBad bad before ReadFault now = ⊥
+TellsBad bad before DiskFault now = ⊥
+TellsBad bad before KeyTaken now = ⊥
 TellsBad bad before Illegal now = ⊥
 TellsBad bad before BadText now = ⊥

@@ -7,7 +7,7 @@ use Rattle.cluster_law.specs.declared.step.TraceStep.{TraceStep}
 use Rattle.script.specs.declared.bad_line.BadLine.{BadLine}
 use Rattle.script.specs.declared.bad_line.BadWhy.{BadWhy}
 use Rattle.script.specs.declared.bad_line.BadWhy.TheVariants.{Big, Many, Long, Byte, First, Word, Count as Counted, Number, Path, Hex, Unbuilt}
-pub use Rattle.trace_text.specs.Line.{line}
+pub use Rattle.run_status.specs.Printing.{line}
 use Rattle.trace_text.specs.Runs as run
 use Rattle.trace_text.specs.Steps as whole
 use Rattle.trace_text.specs.declared.steps.Place.{Place}

@@ -3,11 +3,10 @@ ghost use Rattle.cluster_run.specs.Run.{EndsSo, IsRunCommand};
 ghost use Rattle.cluster_run.specs.ScriptRun.{RunsScript, TellsBad};
 
 use crate::lines::run_lines;
-use crate::printout::print;
 use crate::reading::{ReadError, read_all};
-use crate::status::{Status, status_of};
 use crate::text::bad_script_text;
 use cal_base::{Sink, Source};
+use run_status::{Status, print, status_of};
 use script::{BadLine, ReadScriptError, read_script};
 use std::alloc::Global;
 

@@ -3,9 +3,10 @@ ghost use Rattle.cal_base.specs.Faults.{Rose};
 ghost use Rattle.script.specs.Lines.{lines_of};
 ghost use Rattle.script.specs.Script.{IsFirstBad};
 ghost use Rattle.script.specs.declared.bad_line.BadLine.{BadLine};
-ghost use Rattle.cluster_run.specs.Run.{Edge, EndsSo, IsRunCommand, Took};
-ghost use Rattle.cluster_run.specs.declared.status.Status.{Status};
-ghost use Rattle.cluster_run.specs.declared.status.Status.TheVariants.{Ok, OutOfMemory};
+ghost use Rattle.run_status.specs.Edge.{Edge, Took};
+ghost use Rattle.cluster_run.specs.Run.{EndsSo, IsRunCommand};
+ghost use Rattle.run_status.specs.declared.status.Status.{Status};
+ghost use Rattle.run_status.specs.declared.status.Status.TheVariants.{Ok, OutOfMemory};
 
 /// Where the words are the command, no line of what is read is bad, and neither the source nor the sink
 /// fails, a run carries out all lines, or memory runs out.

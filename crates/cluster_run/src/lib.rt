@@ -6,8 +6,6 @@
 //! - After status 0 the answers printed stand, each call once, in a history that is legal for one file
 //!   tree after every step. A status of failure has its cause: a bad line, or a device whose count of
 //!   faults rose. Want of memory alone has none.
-//! - [`print`] prints a text with room for all of it, and [`status_of`] is how a command ends whose text
-//!   isn't printed: the other commands end as this one does.
 //! - The law [`a_good_script_is_run`] says that a good script over good devices is run to its end, or
 //!   memory runs out.
 //!
@@ -18,13 +16,9 @@
 mod cluster;
 mod laws;
 mod lines;
-mod printout;
 mod reading;
 mod serve;
-mod status;
 mod text;
 
 pub use cluster::run_cluster;
 pub use laws::a_good_script_is_run;
-pub use printout::{PrintError, print};
-pub use status::{Status, status_of};

@@ -1,14 +1,14 @@
 ghost use Rattle.std.specs.Prelude.{◌≡◌, ◌+◌, ◌^◌, ◌<◌, true};
 ghost use Rattle.script.specs.Served.{is_served_call, is_served_line};
-ghost use Rattle.cluster_run.specs.Printing.{Held, Prints};
+ghost use Rattle.run_status.specs.Printing.{Held, Prints};
 ghost use Rattle.cluster_run.specs.Text.{line as text_line, run_line as first_line};
 ghost use Rattle.cluster_run.specs.Serving.{AreServedLines, IsCalm};
 ghost use Rattle.cluster_run.specs.Running.{MakesStep, MakesLine, RunsLines};
 
-use crate::printout::{PrintError, print};
 use crate::serve::serve;
 use crate::text::{end_text, first_text, step_lines};
 use cal_base::{ClientId, Sink};
+use run_status::{PrintError, print};
 use script::Line;
 use std::alloc::Global;
 use tree_law::{Call, PlainTree};

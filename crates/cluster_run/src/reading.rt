@@ -1,5 +1,6 @@
 ghost use Rattle.std.specs.Prelude.{◌≤◌, length, IfOk, IfErr};
-ghost use Rattle.cluster_run.specs.Reading.{Left, IsReadAll, WhyUnread, IsPiece, IsNoPiece};
+ghost use Rattle.run_status.specs.Taking.{Left};
+ghost use Rattle.cluster_run.specs.Reading.{IsReadAll, WhyUnread, IsPiece, IsNoPiece};
 
 use cal_base::{SCRIPT_BYTES, Source};
 use std::alloc::{AllocError, Global};

@@ -5,15 +5,14 @@ use Rattle.std.specs.Cmp.Lexicographic.{pointwise}
 use Rattle.std.proofs.lemmas.Slice.Eq.{bytes_eq-Decides}
 use Rattle.cal_base.specs.Faults.{Rose}
 use Rattle.cal_base.specs.Sink.{TakesPrefix}
-use Rattle.cluster_run.specs.Code.{status_of}
-use Rattle.cluster_run.specs.Text.{line}
-use Rattle.cluster_run.specs.Printing.{Held, Prints}
-use Rattle.cluster_run.specs.Reading.{Left, IsFailed}
-use Rattle.cluster_run.specs.Run.{Edge}
-use Rattle.cluster_run.specs.declared.printout.PrintError.{PrintError}
-use Rattle.cluster_run.specs.declared.printout.PrintError.TheVariants.{WriteFault as NotWritten, OutOfMemory as NoRoom}
-use Rattle.cluster_run.specs.declared.status.Status.{Status}
-use Rattle.cluster_run.specs.declared.status.Status.TheVariants.{Ok as Fine, Usage, BadScript, ReadFault, WriteFault, OutOfMemory, Illegal as IllegalStatus, BadText}
+use Rattle.run_status.specs.Code.{status_of}
+use Rattle.run_status.specs.Printing.{line, Held, Prints}
+use Rattle.run_status.specs.Taking.{Left, IsFailed}
+use Rattle.run_status.specs.Edge.{Edge}
+use Rattle.run_status.specs.declared.printout.PrintError.{PrintError}
+use Rattle.run_status.specs.declared.printout.PrintError.TheVariants.{WriteFault as NotWritten, OutOfMemory as NoRoom}
+use Rattle.run_status.specs.declared.status.Status.{Status}
+use Rattle.run_status.specs.declared.status.Status.TheVariants.{Ok as Fine, Usage, BadScript, ReadFault, WriteFault, DiskFault, OutOfMemory, KeyTaken, Illegal as IllegalStatus, BadText}
 use Rattle.judge_run.specs.Judged.{EndsSo, IsJudgeCommand, FoundSo, IsCutShort, Begins, usage, read_fault, verdict}
 use Rattle.judge_run.specs.Passing.{FindsVerdict, TellsVerdict}
 use Rattle.judge_run.specs.Verdicts.{verdict_line}
@@ -75,3 +74,5 @@ verdict_ends words first last before now (Illegal number) BadText is finds told 
 verdict_ends words first last before now found Usage is finds told = absurd told
 verdict_ends words first last before now found BadScript is finds told = absurd told
 verdict_ends words first last before now found ReadFault is finds told = absurd told
+verdict_ends words first last before now found DiskFault is finds told = absurd told
+verdict_ends words first last before now found KeyTaken is finds told = absurd told

@@ -1,6 +1,6 @@
 -- A line that is too long, piece by piece.
 use Rattle.std.proofs.Common.{◌≡◌, ◌≤◌, ◌<◌, ◌+◌, ℕ, List, [], ◌∷◌, ◌++◌, length, take, Option, Some, None, refl, sym, ap, ◌∙◌, append_assoc, append-nil, length-append, subst, arith}
-use Rattle.cluster_run.specs.Reading.{Left, IsTaken}
+use Rattle.run_status.specs.Taking.{Left, IsTaken}
 use Rattle.judge_run.specs.Passing.{IsLongSoFar, FindsLong, GoesOnLong, TakesPiece}
 use Rattle.judge_run.specs.Texts.{text_bytes, text_of, IsUncut}
 use Rattle.judge_run.specs.Verdicts.{IsBad, IsBig, IsLong, at_line_feed, at_end}

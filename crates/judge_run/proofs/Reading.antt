@@ -2,7 +2,7 @@
 use Rattle.std.proofs.Common.{◌≡◌, ◌≤◌, ◌<◌, ◌+◌, ℕ, List, [], ◌∷◌, ◌++◌, length, Option, Some, None, refl, sym, ap, ◌∙◌, append_assoc, append-nil, length-append, subst, arith, Result, Ok, Err, IfOk, IfErr}
 use Rattle.std.specs.Io.KnownBytes.{prepend_known, IsAtEnd}
 use Rattle.cal_base.specs.Faults.{Rose}
-use Rattle.cluster_run.specs.Reading.{Left, IsTaken}
+use Rattle.run_status.specs.Taking.{Left, IsTaken}
 use Rattle.judge_run.specs.Passing.{IsReady, IsFresh, HasRead, HasLong, IsLongSoFar, FindsLong, FindsVerdict, IsBadLine, Passes, TakesFront, EndsPiece, TakesBytes, TakesNext, WhyUnjudged}
 use Rattle.judge_run.specs.Texts.{piece_bytes, text_of, IsUncut}
 use Rattle.judge_run.specs.Verdicts.{IsFound, IsBad, IsBadText, at_line_feed}

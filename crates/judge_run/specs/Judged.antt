@@ -1,10 +1,10 @@
 -- How a judgement ends, what it read and what it wrote.
 use Rattle.std.specs.Prelude.{◌≡◌, ℕ, List, [], ◌∷◌, take, codes}
 use Rattle.cal_base.specs.Faults.{Rose}
-use Rattle.cluster_run.specs.Run.{Edge, Took, Wrote, IsUnread}
-use Rattle.cluster_run.specs.Text.{line}
-use Rattle.cluster_run.specs.declared.status.Status.{Status}
-use Rattle.cluster_run.specs.declared.status.Status.TheVariants.{Ok, Usage, BadScript, ReadFault, WriteFault, OutOfMemory, Illegal as IllegalStatus, BadText}
+use Rattle.run_status.specs.Edge.{Edge, Took, Wrote, IsUnread}
+use Rattle.run_status.specs.Printing.{line}
+use Rattle.run_status.specs.declared.status.Status.{Status}
+use Rattle.run_status.specs.declared.status.Status.TheVariants.{Ok, Usage, BadScript, ReadFault, WriteFault, DiskFault, OutOfMemory, KeyTaken, Illegal as IllegalStatus, BadText}
 use Rattle.judge_run.specs.Verdicts.{IsFound, verdict_line}
 use Rattle.judge_run.specs.declared.verdict.BadTextWhy.{BadTextWhy}
 use Rattle.judge_run.specs.declared.verdict.Counts.{Counts}
@@ -66,3 +66,5 @@ EndsSo words before now ReadFault = IsJudgeCommand words × IsUnread before now
 EndsSo words before now WriteFault = IsCutShort words before now
 EndsSo words before now OutOfMemory = now.held ≡ before.held
 EndsSo words before now BadScript = ⊥
+EndsSo words before now DiskFault = ⊥
+EndsSo words before now KeyTaken = ⊥

@@ -8,11 +8,10 @@ use Rattle.history_check.specs.Fits.{FitTo}
 use Rattle.history_check.specs.Judging.{Stands}
 use Rattle.history_check.specs.declared.told.Told.{Told}
 use Rattle.history_check.specs.declared.told.Told.TheVariants.{Starts, Enters, Flushes, Purges, Answers}
-use Rattle.cluster_run.specs.Printing.{Held}
-use Rattle.cluster_run.specs.Reading.{Left, IsTaken, IsFailed}
-use Rattle.cluster_run.specs.Text.{line}
-use Rattle.cluster_run.specs.declared.status.Status.{Status}
-use Rattle.cluster_run.specs.declared.status.Status.TheVariants.{Ok as Fine, Usage, BadScript, ReadFault as NotRead, WriteFault, OutOfMemory as NoRoom, Illegal as IllegalStatus, BadText}
+use Rattle.run_status.specs.Printing.{line, Held}
+use Rattle.run_status.specs.Taking.{Left, IsTaken, IsFailed}
+use Rattle.run_status.specs.declared.status.Status.{Status}
+use Rattle.run_status.specs.declared.status.Status.TheVariants.{Ok as Fine, Usage, BadScript, ReadFault as NotRead, WriteFault, DiskFault, OutOfMemory as NoRoom, KeyTaken, Illegal as IllegalStatus, BadText}
 use Rattle.text_lines.specs.Outcome.{outside}
 use Rattle.text_lines.specs.Telling.{told_in}
 use Rattle.judge_run.specs.Texts.{text_bytes, line_bytes, piece_bytes, text_of, IsUncut, IsWithin, AreFit, answer_count, with_told}
@@ -217,3 +216,5 @@ TellsVerdict verdict before NoRoom now = now.held ≡ before.held
 TellsVerdict verdict before Usage now = ⊥
 TellsVerdict verdict before BadScript now = ⊥
 TellsVerdict verdict before NotRead now = ⊥
+TellsVerdict verdict before DiskFault now = ⊥
+TellsVerdict verdict before KeyTaken now = ⊥

@@ -7,8 +7,8 @@ use Rattle.history_check.specs.Fits.{FitTo}
 use Rattle.history_check.specs.declared.told.Told.{Told}
 use Rattle.text_lines.specs.Outcome.{outside}
 use Rattle.text_lines.specs.Telling.{told_in}
-use Rattle.cluster_run.specs.declared.status.Status.{Status}
-use Rattle.cluster_run.specs.declared.status.Status.TheVariants.{Ok as Fine, Illegal as IllegalStatus, BadText}
+use Rattle.run_status.specs.declared.status.Status.{Status}
+use Rattle.run_status.specs.declared.status.Status.TheVariants.{Ok as Fine, Illegal as IllegalStatus, BadText}
 use Rattle.judge_run.specs.Texts.{text_bytes, line_bytes, piece_bytes, text_of, IsUncut, IsWithin, AreFit, answer_count}
 use Rattle.judge_run.specs.declared.verdict.BadTextWhy.{BadTextWhy}
 use Rattle.judge_run.specs.declared.verdict.BadTextWhy.TheVariants.{Big, Long, End, Form}

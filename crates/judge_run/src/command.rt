@@ -1,6 +1,6 @@
 ghost use Rattle.std.specs.Prelude.{◌≡◌, ◌+◌, ◌↔◌, IsTrue, length, map, IfOk, IfErr};
-ghost use Rattle.cluster_run.specs.Printing.{Held};
-ghost use Rattle.cluster_run.specs.Reading.{Left};
+ghost use Rattle.run_status.specs.Printing.{Held};
+ghost use Rattle.run_status.specs.Taking.{Left};
 ghost use Rattle.judge_run.specs.Judged.{EndsSo, IsJudgeCommand};
 ghost use Rattle.judge_run.specs.Passing.{FindsVerdict, IsBounded, IsReady, TakesNext, TellsVerdict, WhyUnjudged};
 
@@ -9,7 +9,7 @@ use crate::pieces::{JudgeError, PIECE_BYTES, read_piece};
 use crate::text_judge::{PieceEnd, TextJudge};
 use crate::verdict::{Verdict, status_of_verdict, verdict_text};
 use cal_base::{Oom, Sink, Source};
-use cluster_run::{Status, print, status_of};
+use run_status::{Status, print, status_of};
 use std::alloc::Global;
 
 /// Judges the text that the source has, with the one word `judge`: whether all its lines are good and fit

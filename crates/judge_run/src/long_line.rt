@@ -1,5 +1,5 @@
 ghost use Rattle.std.specs.Prelude.{◌≡◌, ◌≤◌, ◌+◌, length, IfOk, IfErr};
-ghost use Rattle.cluster_run.specs.Reading.{Left};
+ghost use Rattle.run_status.specs.Taking.{Left};
 ghost use Rattle.judge_run.specs.Passing.{FindsLong, GoesOnLong, WhyUnjudged};
 
 use crate::judging::TEXT_BYTES;

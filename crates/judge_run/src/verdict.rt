@@ -1,10 +1,10 @@
 ghost use Rattle.std.specs.Prelude.{◌≡◌, IfOk};
-ghost use Rattle.cluster_run.specs.Text.{line};
+ghost use Rattle.run_status.specs.Printing.{line};
 ghost use Rattle.judge_run.specs.Verdicts.{bad_text_why, verdict_line, status_of};
 
 use cal_base::Oom;
-use cluster_run::Status;
 use reply_text::{put, put_field};
+use run_status::Status;
 use std::alloc::Global;
 
 /// Why a line is no line of a text. The first that applies, in this order, is told.

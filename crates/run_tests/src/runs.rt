@@ -1,5 +1,6 @@
 use cal_base::{FaultSink, FaultSource, MemSink, MemSource};
-use cluster_run::{Status, run_cluster};
+use cluster_run::run_cluster;
+use run_status::Status;
 use std::alloc::Global;
 use std::test::Fail;
 

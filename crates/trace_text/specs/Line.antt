@@ -1,12 +1,9 @@
 -- Lines, and the words that several lines have.
-use Rattle.std.specs.Prelude.{ℕ, List, [], ◌∷◌, ◌++◌, codes, Option, Some, None}
+use Rattle.std.specs.Prelude.{ℕ, List, [], ◌∷◌, codes, Option, Some, None}
 use Rattle.cal_base.specs.declared.identity.NodeId.{NodeId}
 use Rattle.reply_text.specs.Text.{hex_text}
+pub use Rattle.run_status.specs.Printing.{line}
 use Rattle.script.specs.Spelling.{node_word}
-
--- a line with its line feed
-abbrev pub line : List ℕ → List ℕ
-line text = text ++ 10 ∷ []
 
 -- bytes in hexadecimal, or a dash where there are none
 abbrev pub hex_or_dash : List ℕ → List ℕ

@@ -3,9 +3,10 @@ use Rattle.cal_base.specs.Faults.{Rose}
 use Rattle.script.specs.Lines.{lines_of}
 use Rattle.script.specs.Script.{IsFirstBad}
 use Rattle.script.specs.declared.bad_line.BadLine.{BadLine}
-use Rattle.cluster_run.specs.Run.{Edge, EndsSo, IsRunCommand, Took}
-use Rattle.cluster_run.specs.declared.status.Status.{Status}
-use Rattle.cluster_run.specs.declared.status.Status.TheVariants.{Ok, Usage, BadScript, ReadFault, WriteFault, OutOfMemory, Illegal, BadText}
+use Rattle.run_status.specs.Edge.{Edge, Took}
+use Rattle.cluster_run.specs.Run.{EndsSo, IsRunCommand}
+use Rattle.run_status.specs.declared.status.Status.{Status}
+use Rattle.run_status.specs.declared.status.Status.TheVariants.{Ok, Usage, BadScript, ReadFault, WriteFault, DiskFault, OutOfMemory, KeyTaken, Illegal, BadText}
 use Rattle.cluster_run.proofs.laws.a_good_script_is_run.Goals as goal
 
 completes : (words : List (List ℕ)) (before now : Edge) (status : Status) → EndsSo words before now status → IsRunCommand words
@@ -17,6 +18,8 @@ completes words before now BadScript ends run good source sink = absurd (good en
 completes words before now ReadFault ends run good source sink = absurd (source ends.1.rose)
 completes words before now WriteFault ends run good source sink = absurd (sink ends.rose)
 completes words before now OutOfMemory ends run good source sink = inr refl
+completes words before now DiskFault ends run good source sink = absurd ends
+completes words before now KeyTaken ends run good source sink = absurd ends
 completes words before now Illegal ends run good source sink = absurd ends
 completes words before now BadText ends run good source sink = absurd ends
 

@@ -1,12 +1,12 @@
 ghost use Rattle.std.specs.Prelude.{◌≡◌};
-ghost use Rattle.cluster_run.specs.Code.{code_of, status_of};
+ghost use Rattle.run_status.specs.Code.{code_of, status_of};
 
 use crate::printout::PrintError;
 
-/// How a run ends.
+/// How a command ends.
 #[derive(Clone, Copy, Debug, PartialEq, Eq)]
 pub enum Status {
-    /// All lines of the script were carried out, and the whole text was written.
+    /// All was carried out, and the whole text was written.
     Ok,
     /// The words of the command line aren't a command.
     Usage,
@@ -16,11 +16,15 @@ pub enum Status {
     ReadFault,
     /// The sink failed.
     WriteFault,
+    /// The disk failed while it was formatted.
+    DiskFault,
     /// Memory ran out.
     OutOfMemory,
-    /// A line of a text that is judged tells what can't come next. A script never ends so.
+    /// The disk is under the key of a view already.
+    KeyTaken,
+    /// A line of a text that is judged tells what can't come next.
     Illegal,
-    /// A line of a text that is judged is outside its form or a limit. A script never ends so.
+    /// A line of a text that is judged is outside its form or a limit.
     BadText,
 }
 
@@ -35,14 +39,16 @@ impl Status {
             Status::BadScript => 3,
             Status::ReadFault => 4,
             Status::WriteFault => 5,
+            Status::DiskFault => 6,
             Status::OutOfMemory => 7,
+            Status::KeyTaken => 9,
             Status::Illegal => 11,
             Status::BadText => 12,
         }
     }
 }
 
-/// How a run ends whose text isn't printed.
+/// How a command ends whose text isn't printed.
 pub fn status_of(error: PrintError) -> Status
     ensures { result ≡ status_of error }
 {

@@ -1,7 +1,7 @@
 use Rattle.std.proofs.Common.{◌≡◌, ◌++◌, List, ℕ, take, drop, Err, sym, ap, arith}
 use Rattle.std.proofs.lemmas.List.{take-append-drop}
-use Rattle.cluster_run.proofs.Printed.{printed_on, cut_short}
-use Rattle.cluster_run.proofs.printout.write_lines.Goals as goal
+use Rattle.run_status.proofs.Printed.{printed_on, cut_short}
+use Rattle.run_status.proofs.printout.write_lines.Goals as goal
 
 parted : (n : ℕ) (whole front back : List ℕ) → front ≡ take n whole → back ≡ drop n whole → whole ≡ front ++ back
 parted n whole front back f b = rw (f, b) (sym (take-append-drop n whole))

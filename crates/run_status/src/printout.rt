@@ -1,8 +1,9 @@
 ghost use Rattle.std.specs.Prelude.{◌≡◌, ◌+◌, ◌<◌, ◌≤◌, length, IsErrOf};
-ghost use Rattle.cluster_run.specs.declared.printout.PrintError.TheVariants.{OutOfMemory, WriteFault};
-ghost use Rattle.cluster_run.specs.Printing.{Held, Prints};
+ghost use Rattle.run_status.specs.declared.printout.PrintError.TheVariants.{OutOfMemory, WriteFault};
+ghost use Rattle.run_status.specs.Printing.{Held, Prints};
 
 use cal_base::{Failed, Oom, Sink};
+use memchr::memchr;
 
 /// Why a text was not printed whole.
 #[derive(Clone, Copy, Debug, PartialEq, Eq)]
@@ -48,7 +49,7 @@ fn line_end(text: &[u8]) -> usize
     ensures some { 0 < result }
     ensures within { result ≤ length text.now }
 {
-    match text.iter().position(|byte| *byte == b'\n') {
+    match memchr(b'\n', text) {
         Some(at) => at + 1,
         None => text.len(),
     }

@@ -5,9 +5,9 @@ use Rattle.std.proofs.lemmas.Grind.{common_steps}
 use Rattle.std.specs.Io.KnownBytes.{append_known}
 use Rattle.cal_base.specs.Faults.{Rose}
 use Rattle.cal_base.specs.Sink.{TakesPrefix}
-use Rattle.cluster_run.specs.Printing.{Held, Prints}
-use Rattle.cluster_run.specs.declared.printout.PrintError.{PrintError}
-use Rattle.cluster_run.specs.declared.printout.PrintError.TheVariants.{WriteFault, OutOfMemory}
+use Rattle.run_status.specs.Printing.{Held, Prints}
+use Rattle.run_status.specs.declared.printout.PrintError.{PrintError}
+use Rattle.run_status.specs.declared.printout.PrintError.TheVariants.{WriteFault, OutOfMemory}
 
 -- two pieces put one after the other are one
 pub append_known-append : (known : Option (List ℕ)) (a b : List ℕ) → append_known (append_known known a) b ≡ append_known known (a ++ b)

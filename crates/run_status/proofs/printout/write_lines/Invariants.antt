@@ -1,6 +1,6 @@
 use Rattle.std.proofs.Common.{◌≤◌, length}
-use Rattle.cluster_run.proofs.Printed.{IsPrintedTo}
-use Rattle.cluster_run.proofs.printout.write_lines.Given as goal
+use Rattle.run_status.proofs.Printed.{IsPrintedTo}
+use Rattle.run_status.proofs.printout.write_lines.Given as goal
 
 abbrev pub invariant-loop-rest : goal.invariant-loop-rest
 invariant-loop-rest g l =

@@ -1,10 +1,14 @@
 -- What printing comes to.
-use Rattle.std.specs.Prelude.{◌≡◌, ◌≤◌, ℕ, List, Option, Result, Ok, Err}
+use Rattle.std.specs.Prelude.{◌≡◌, ◌≤◌, ◌∷◌, ◌++◌, [], ℕ, List, Option, Result, Ok, Err}
 use Rattle.std.specs.Io.KnownBytes.{append_known}
 use Rattle.cal_base.specs.Faults.{Rose}
 use Rattle.cal_base.specs.Sink.{TakesPrefix}
-use Rattle.cluster_run.specs.declared.printout.PrintError.{PrintError}
-use Rattle.cluster_run.specs.declared.printout.PrintError.TheVariants.{WriteFault, OutOfMemory}
+use Rattle.run_status.specs.declared.printout.PrintError.{PrintError}
+use Rattle.run_status.specs.declared.printout.PrintError.TheVariants.{WriteFault, OutOfMemory}
+
+-- a line with its line feed
+abbrev pub line : List ℕ → List ℕ
+line text = text ++ 10 ∷ []
 
 -- what a sink holds, and how often it has failed
 pub record Held : Type 0 where

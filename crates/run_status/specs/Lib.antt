@@ -1,0 +1,4 @@
+pub mod Code
+pub mod Edge
+pub mod Printing
+pub mod Taking

@@ -1,16 +1,21 @@
-//! The program `calypso`: runs a script of file calls from standard input and prints what came of it.
-//! With the one word `run` it reads a script from standard input, carries it out, prints its steps to
-//! standard output, and ends with the status that [`run_cluster`] answers; with any other words,
-//! those that are no UTF-8 included, it prints `Usage` and ends with 2. What a run reads, prints and
-//! answers is promised by the contract of `run_cluster`; this crate only hands it the words, the
-//! input and the output of the process.
+//! The program `calypso`: runs a script of file calls from standard input and prints what came of it, or judges
+//! such a text.
+//!
+//! With the one word `run` it reads a script from standard input, carries it out, prints its steps to standard output,
+//! and ends with the status that [`run_cluster`] answers. With the one word `judge` it reads a
+//! text and ends as [`run_judge`] answers. With any other words, those that are no UTF-8 included, it prints `Usage`
+//! and ends with 2. What is read, printed and answered is promised by the contracts of these two; this crate only
+//! hands them the words, the input and the output of the process. What they print goes out in large pieces.
 #![tactic(auto)]
 
-use cal_base::{Oom, StdSink, StdSource};
+use cal_base::{Oom, Sink, Source, StdSink, StdSource};
 use cluster_run::run_cluster;
+use judge_run::run_judge;
 use run_status::Status;
+use std::alloc::Global;
 use std::env::FillError;
 use std::io;
+use std::io::{BufWriter, Write};
 use std::process::ExitCode;
 use std::rt::Env;
 
@@ -44,16 +49,38 @@ fn words(rt: &(impl Env + AllocGlobal)) -> Result<Vec<String>, Oom> {
     Ok(words)
 }
 
-/// Runs the command of these words over standard input and output.
+/// Runs the command of these words over a source and a sink.
+fn run_command<S: Source, K: Sink>(
+    alloc: Global,
+    words: &[&str],
+    source: &mut S,
+    sink: &mut K,
+) -> Status {
+    match words {
+        ["judge", ..] => run_judge(alloc, words, source, sink),
+        [] | [_, ..] => run_cluster(alloc, words, source, sink),
+    }
+}
+
+/// Runs the command of these words over standard input and output. What couldn't be written at the end is a write
+/// that failed.
 fn run(rt: &(impl Input + Print + AllocGlobal), words: &[String]) -> Result<Status, Oom> {
     let alloc = rt.alloc();
     let mut texts = Vec::new(alloc);
     for word in words {
         texts.push(word.as_str())?;
     }
+    let Ok(mut writer) = BufWriter::new(alloc, io::writer(rt)) else {
+        return Err(Oom);
+    };
     let mut source = StdSource::new(rt.reader());
-    let mut sink = StdSink::new(io::writer(rt));
-    Ok(run_cluster(alloc, texts.as_slice(), &mut source, &mut sink))
+    let mut sink = StdSink::new(&mut writer);
+    let status = run_command(alloc, texts.as_slice(), &mut source, &mut sink);
+    drop(sink);
+    match writer.flush() {
+        Ok(()) => Ok(status),
+        Err(_) => Ok(Status::WriteFault),
+    }
 }
 
 fn main(rt: HostRuntime) -> ExitCode {

@@ -2,3 +2,4 @@ mod Counts
 mod Sending
 mod Turns
 mod Covered
+mod Asking

@@ -58,6 +58,10 @@ moves n p = is_server p.from && same_node p.to n.session.me && nat_lt n.session.
 abbrev pub session_for : NodeValue → Packet → SessionState
 session_for n p = if moves n p then new_session n.session.me p.from p.view else n.session
 
+-- a packet brings the client's next message, also where its bytes spell none
+abbrev pub takes_packet : NodeValue → Packet → Bool
+takes_packet n p = is_some (body_of (session_for n p) p)
+
 -- what a packet brings: its message, if that is the next one. Bytes that are no message are taken, and come to
 -- nothing
 abbrev pub takes : Option Message → Turn

@@ -7,13 +7,14 @@ ghost use Rattle.cluster_law.specs.declared.node.ClientInput.TheVariants.{Start}
 ghost use Rattle.session.specs.Session.{new_session, unacknowledged};
 ghost use Rattle.client_book.specs.Sound.{IsCall, KeepsLaw, MayCome, first_value};
 ghost use Rattle.client_book.specs.Made.{messages_in};
-ghost use Rattle.client_node.specs.Node.{turn_in, MayStart};
+ghost use Rattle.client_node.specs.Node.{turn_in, takes_packet, MayStart};
 ghost use Rattle.client_node.specs.Step.{AnswersCovered, Gives, node_after};
 
 use crate::ends::Ends;
 use cal_base::{ClientId, NodeId, Oom, ServerId, View};
 use client_state::is_call;
 use cluster_law::{ClientInput, ClientOutput};
+use session::Packet;
 use std::alloc::Global;
 use std::marker::Model;
 use tree_law::Call;
@@ -92,6 +93,21 @@ impl ClientNode {
         ensures { IsTrue result ↔ (self.now.client.call ≢ Missing) }
     {
         self.ends.client.busy()
+    }
+
+    /// How many calls were started.
+    pub fn calls(&self) -> u64
+        ensures { result ≡ self.now.client.calls }
+    {
+        self.ends.client.calls()
+    }
+
+    /// Whether the packet brings the client's next message, so that a step takes it; bytes that are no message count
+    /// too. It takes no memory.
+    pub fn takes(&self, packet: &Packet) -> bool
+        ensures { result ≡ takes_packet self.now packet.now }
+    {
+        self.ends.takes(packet)
     }
 
     /// How many steps were made.

@@ -1,12 +1,13 @@
-ghost use Rattle.std.specs.Prelude.{◌≡◌, ◌<◌, ◌+◌, ◌^◌, ◌&&◌, nat_lt, Some as Given, IfOk, IfSome, OnOk, length};
+ghost use Rattle.std.specs.Prelude.{◌≡◌, ◌<◌, ◌+◌, ◌^◌, ◌&&◌, is_some, nat_lt, Some as Given, IfOk, IfSome, OnOk, length};
 ghost use Rattle.cal_base.specs.declared.identity.NodeId.TheVariants.{Client as IsClientId};
+ghost use Rattle.message.specs.Bodies.{message_of};
 ghost use Rattle.message.specs.Range.{IsMessage};
-ghost use Rattle.session.specs.Session.{heard, is_of_session};
+ghost use Rattle.session.specs.Session.{body_of, heard, is_of_session};
 ghost use Rattle.cluster_law.specs.declared.node.ClientInput.TheVariants.{Packet as Comes};
 ghost use Rattle.client_book.specs.Client.{value_after};
 ghost use Rattle.client_book.specs.Sound.{HasSpelling, IsClient};
 ghost use Rattle.client_state.specs.Working.{made_at};
-ghost use Rattle.client_node.specs.Node.{IsNode, is_ask, is_server, message_in, moves, session_for, takes, takes_next, turn_in};
+ghost use Rattle.client_node.specs.Node.{IsNode, is_ask, is_server, message_if, message_in, moves, session_for, takes, takes_next, takes_packet, turn_in};
 ghost use Rattle.client_node.specs.Step.{Gives, GivesBack, bodies_for, goes_on_at, hears_packet};
 
 use crate::ends::Ends;
@@ -14,9 +15,12 @@ use crate::outgoing::acknowledge;
 use cal_base::{NodeId, Oom};
 use client_state::Made;
 use cluster_law::ClientOutput;
-use message::{DecodeError, Message, decode};
+use message::{DecodeError, Message, decode, one_spelling};
 use session::{Packet, Session};
 use std::alloc::Global;
+
+/// The byte that spells an Ask.
+const ASK: u8 = 10;
 
 impl Ends {
     /// Hears a packet: its session, or that of a higher view to which it moves the client, takes it.
@@ -29,7 +33,7 @@ impl Ends {
         ensures spelled { OnOk result (HasSpelling (turn_in self.old (Comes packet.now))) }
     {
         let message = message_in(self.alloc, packet)?;
-        self.move_by(packet, &message)?;
+        self.move_by(packet)?;
         let output = self.hear_in_session(packet, message)?;
         Ok(output)
     }
@@ -67,29 +71,35 @@ impl Ends {
     }
 
     /// Begins the session of a higher view, if the packet is the Ask with which that begins.
-    fn move_by(&mut self, packet: &Packet, message: &Option<Message>) -> Result<(), Oom>
-        requires me { self.old.session.me ≡ IsClientId self.old.id }
-        requires message { message.now ≡ message_in packet.now }
+    fn move_by(&mut self, packet: &Packet) -> Result<(), Oom>
+        requires { self.old.session.me ≡ IsClientId self.old.id }
         ensures { OnOk result (self.new ≡ record self.old { session = session_for self.old packet.now }) }
     {
-        if self.moves(packet, message) {
+        if self.moves(packet) {
             let me = NodeId::Client(self.id);
             self.session = Session::new(self.alloc, me, packet.from, packet.view)?;
         }
         Ok(())
     }
 
+    /// Whether the packet brings the next message, in the session in which it is heard.
+    pub(crate) fn takes(&self, packet: &Packet) -> bool
+        requires { self.now.session.me ≡ IsClientId self.now.id }
+        ensures { result ≡ takes_packet self.now packet.now }
+    {
+        self.moves(packet) || brings_next(&self.session, packet)
+    }
+
     /// Whether the packet is the Ask with which the session of a higher view begins.
-    fn moves(&self, packet: &Packet, message: &Option<Message>) -> bool
-        requires me { self.now.session.me ≡ IsClientId self.now.id }
-        requires message { message.now ≡ message_in packet.now }
+    fn moves(&self, packet: &Packet) -> bool
+        requires { self.now.session.me ≡ IsClientId self.now.id }
         ensures { result ≡ moves self.now packet.now }
     {
         is_server(packet.from)
             && packet.to == NodeId::Client(self.id)
             && self.session.view().0 < packet.view.0
             && packet.seq == 1
-            && is_ask(message)
+            && spells_ask(packet.body.as_slice())
     }
 
     /// Takes the message, if it is the next one.
@@ -138,46 +148,13 @@ fn is_server(node: NodeId) -> bool
     }
 }
 
-fn is_ask(message: &Option<Message>) -> bool
-    ensures { result ≡ is_ask message.now }
+/// Whether bytes spell an Ask, which has one spelling. It takes no memory.
+fn spells_ask(bytes: &[u8]) -> bool
+    ensures { result ≡ is_ask (message_if (message_of bytes.now)) }
 {
-    match message {
-        None => false,
-        Some(message) => is_ask_message(message),
-    }
-}
-
-fn is_ask_message(message: &Message) -> bool
-    ensures { result ≡ is_ask (Given message.now) }
-{
-    match message {
-        Message::Acquire { number: _, want: _ } => false,
-        Message::Grant {
-            number: _,
-            items: _,
-        } => false,
-        Message::Refuse {
-            number: _,
-            free: _,
-            needed: _,
-        } => false,
-        Message::Change { number: _, call: _ } => false,
-        Message::Done {
-            number: _,
-            reply: _,
-        } => false,
-        Message::Flush(_) => false,
-        Message::Flushed { number: _ } => false,
-        Message::Revoke(_) => false,
-        Message::Release(_) => false,
-        Message::Ask => true,
-        Message::Piece(_) => false,
-        Message::Wait {
-            number: _,
-            client: _,
-        } => false,
-        Message::Admit => false,
-    }
+    // this law tells that no other bytes spell an Ask
+    one_spelling();
+    bytes.len() == 1 && bytes[0] == ASK
 }
 
 /// The message that a packet spells, if it spells one.
@@ -190,4 +167,12 @@ fn message_in(alloc: Global, packet: &Packet) -> Result<Option<Message>, Oom>
         Err(DecodeError::BadMessage { at: _ }) => Ok(None),
         Err(DecodeError::OutOfMemory) => Err(Oom),
     }
+}
+
+/// Whether the packet brings the next message of a session, which that takes. It takes no memory.
+fn brings_next(session: &Session, packet: &Packet) -> bool
+    ensures { result ≡ is_some (body_of session.now packet.now) }
+{
+    let taken = session.bare_ack().ack;
+    session.is_of_session(packet) && packet.seq > 0 && packet.seq - 1 == taken
 }

@@ -1,4 +1,4 @@
-ghost use Rattle.std.specs.Prelude.{◌≡◌, ◌<◌, ◌^◌, ◌++◌, ◌↔◌, [], not, IsTrue, IfOk, IfSome, OnOk};
+ghost use Rattle.std.specs.Prelude.{◌≡◌, ◌<◌, ◌^◌, ◌++◌, ◌↔◌, [], is_some, not, IsTrue, IfOk, IfSome, OnOk};
 ghost use Rattle.std.specs.List.{list_any};
 ghost use Rattle.cal_base.specs.Limits.{clients};
 ghost use Rattle.message.specs.Range.{IsMessage};
@@ -120,6 +120,14 @@ impl ClientSessions {
         }
     }
 
+    /// Whether the packet brings the client's next message, which `hear` takes. It takes no memory.
+    pub fn brings_next(&self, client: ClientId, packet: &Packet) -> bool
+        requires { client.0 < clients }
+        ensures { result ≡ is_some (body_of (session_at self.now client) packet.now) }
+    {
+        brings_next(self.session(client), packet)
+    }
+
     /// Whether a packet to the client is sent in this step: only where none is, a bare acknowledgement is owed.
     pub fn has_sent(&self, client: ClientId) -> bool
         ensures { result ≡ has_sent_in self.now client }
@@ -214,4 +222,12 @@ fn is_to(client: ClientId, packet: &Packet) -> bool
     ensures { result ≡ is_to client packet.now }
 {
     packet.to == NodeId::Client(client)
+}
+
+/// Whether the packet brings the next message of a session, which that takes. It takes no memory.
+fn brings_next(session: &Session, packet: &Packet) -> bool
+    ensures { result ≡ is_some (body_of session.now packet.now) }
+{
+    let taken = session.bare_ack().ack;
+    session.is_of_session(packet) && packet.seq > 0 && packet.seq - 1 == taken
 }

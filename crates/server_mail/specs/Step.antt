@@ -1,5 +1,5 @@
 -- What a server hears of its clients in a step, and what the step sends to each.
-use Rattle.std.specs.Prelude.{◌≡◌, ◌<◌, ◌+◌, ◌^◌, ◌&&◌, ◌∷◌, [], ℕ, Bool, false, not, nat_eq, nat_lt, if◌then◌else◌, List, Option, Some, None, Result, Ok, Err, option_to_list, map, filter}
+use Rattle.std.specs.Prelude.{◌≡◌, ◌<◌, ◌+◌, ◌^◌, ◌&&◌, ◌∷◌, [], ℕ, Bool, false, is_some, not, nat_eq, nat_lt, if◌then◌else◌, List, Option, Some, None, Result, Ok, Err, option_to_list, map, filter}
 use Rattle.cal_base.specs.Limits.{clients}
 use Rattle.cal_base.specs.declared.identity.ClientId.{ClientId}
 use Rattle.cal_base.specs.declared.identity.NodeId.TheVariants.{Client, Server}
@@ -74,6 +74,15 @@ from_client client (Some message) = Some (record { client = client; message = me
 abbrev pub brought : Mail → Packet → Option ClientId → Option FromClient
 brought m p None = None
 brought m p (Some client) = from_client client (spelled (body_of (session_at m client) p))
+
+-- a packet that is heard in the session with this client brings the next message there
+abbrev pub brings_next : Mail → Packet → Option ClientId → Bool
+brings_next m p None = false
+brings_next m p (Some client) = is_some (body_of (session_at m client) p)
+
+-- a packet brings the next message of a client whose purge isn't marked, also where its bytes spell none
+abbrev pub takes : Mail → Volume → Packet → Bool
+takes m volume p = brings_next m p (heard_from m volume p)
 
 -- the client that is owed an acknowledgement for a packet: the one that is heard, where the packet has a number
 abbrev pub owed : Packet → Option ClientId → Option ClientId

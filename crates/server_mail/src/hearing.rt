@@ -9,7 +9,7 @@ ghost use Rattle.lane_facts.specs.Speaking.{opened_by};
 ghost use Rattle.message.specs.Bodies.{message_of};
 ghost use Rattle.message.specs.Range.{IsMessage};
 ghost use Rattle.session.specs.Session.{body_of};
-ghost use Rattle.server_mail.specs.Step.{AllGoOut, after_coming, brought, from_client, heard_from, is_purged, message_if, owed, packets_to, part_of, spelled};
+ghost use Rattle.server_mail.specs.Step.{AllGoOut, after_coming, brought, from_client, heard_from, is_purged, message_if, owed, packets_to, part_of, spelled, takes};
 
 use cal_base::{ClientId, Oom};
 use client_sessions::ClientSessions;
@@ -64,6 +64,17 @@ pub fn hear(
     let took = take(alloc, mail, from, packet)?;
     let answers = owed(from, packet);
     Ok(Heard { took, answers })
+}
+
+/// Whether a packet brings the next message of a client whose purge isn't marked, which `hear` takes. Bytes that are no
+/// message count too. It takes no memory.
+pub fn takes(mail: &ClientSessions, image: &Image, packet: &Packet) -> bool
+    ensures { result ≡ takes mail.now image.now packet.now }
+{
+    match heard_from(mail, image, packet) {
+        None => false,
+        Some(client) => mail.brings_next(client, packet),
+    }
 }
 
 /// The client in whose session a packet is heard.

@@ -24,7 +24,7 @@ mod resending;
 mod sending;
 
 pub use acknowledging::acknowledge;
-pub use hearing::{FromClient, Heard, hear};
+pub use hearing::{FromClient, Heard, hear, takes};
 pub use laws::{
     a_lane_has_what_goes_to_its_client, no_client_is_told_more_than_is_done, what_is_heard_is_owed,
 };

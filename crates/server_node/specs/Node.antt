@@ -1,5 +1,5 @@
 -- A server of one view: what it is between two steps, and what it has at its first.
-use Rattle.std.specs.Prelude.{◌≡◌, ◌+◌, ◌*◌, ◌^◌, ◌<◌, ◌≤◌, [], ℕ, Result, Ok, Err, length}
+use Rattle.std.specs.Prelude.{◌≡◌, ◌+◌, ◌*◌, ◌^◌, ◌<◌, ◌≤◌, [], ℕ, Bool, Result, Ok, Err, length}
 use Rattle.cal_base.specs.Limits.{clients}
 use Rattle.cal_base.specs.declared.identity.ClientId.{ClientId}
 use Rattle.cal_base.specs.declared.identity.ServerId.{ServerId}
@@ -8,9 +8,11 @@ use Rattle.client_sessions.specs.Mail.{AreBetween, Mail, session_at}
 use Rattle.cluster_law.specs.declared.node.ServerOutput.{ServerOutput}
 use Rattle.fence.specs.Port.{PortState}
 use Rattle.server_desk.specs.Desk.{DeskValue}
+use Rattle.server_mail.specs.Step.{takes}
 use Rattle.server_start.specs.declared.started.Started.{Started}
 use Rattle.server_start.specs.declared.stops.FormatError.{FormatError}
 use Rattle.server_start.specs.declared.stops.StepError.{StepError}
+use Rattle.session.specs.declared.packet.Packet.{Packet}
 use Rattle.volume.specs.Volume.{Volume}
 
 -- a server, its port, what it knows of holds and requests, its volume and its sessions; and how many steps it has made
@@ -36,6 +38,10 @@ pub record IsNode (n : NodeValue) : Type 0 where
   pub between : AreBetween n.id (view_of n) n.mail
   pub unsent : n.mail.sent ≡ []
   pub counts : (client : ClientId) → client.0 < clients → HasRoomFor n client
+
+-- a packet brings the next message of a client whose purge isn't marked
+abbrev pub takes_packet : NodeValue → Packet → Bool
+takes_packet n p = takes n.mail n.image p
 
 -- what a node has as it begins
 abbrev pub started_of : NodeValue → Started

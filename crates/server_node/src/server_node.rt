@@ -5,7 +5,7 @@ ghost use Rattle.cluster_law.specs.ServerState.{ServerState};
 ghost use Rattle.image.specs.EntryPlans.{TellsFresh};
 ghost use Rattle.image.specs.Mount.{Told};
 ghost use Rattle.server_desk.specs.Desk.{IsLike};
-ghost use Rattle.server_node.specs.Node.{Begins, IsNew, formatted, served, started_of};
+ghost use Rattle.server_node.specs.Node.{Begins, IsNew, formatted, served, started_of, takes_packet};
 ghost use Rattle.server_node.specs.Quiet.{IsIdle, IsQuiet, IsQuietWith};
 ghost use Rattle.server_node.specs.Step.{Steps, Stops};
 ghost use Rattle.server_start.specs.Boots.{BootEnds, IsAsItWas};
@@ -26,11 +26,13 @@ use membership::Members;
 use server_desk::Desk;
 use server_disk::{Carried, carry_out};
 use server_draft::Draft;
+use server_mail::takes;
 use server_removals::removes_nothing;
 use server_start::{
     FormatError, Started, StepError, boot, each_client_is_asked_in_its_session, format_volume,
 };
 use server_turn::Planned;
+use session::Packet;
 use shared_disk::{PortDisk, Stop};
 use std::alloc::Global;
 use std::marker::Model;
@@ -225,6 +227,14 @@ impl ServerNode {
         ensures { IsTrue result ↔ IsQuietWith self.now client }
     {
         self.image.slot(client).purged || self.mail.is_quiet(client)
+    }
+
+    /// Whether the packet brings the next message of a client whose purge isn't marked, so that a step takes it; bytes
+    /// that are no message count too. It takes no memory.
+    pub fn takes(&self, packet: &Packet) -> bool
+        ensures { result ≡ takes_packet self.now packet.now }
+    {
+        takes(&self.mail, &self.image, packet)
     }
 
     /// How many steps were made.

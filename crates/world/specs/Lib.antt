@@ -4,3 +4,4 @@ pub mod Trace
 pub mod Step
 pub mod Made
 pub mod Quiet
+pub mod Taking

@@ -4,9 +4,11 @@ ghost use Rattle.cal_base.specs.declared.identity.ClientId.{ClientId};
 ghost use Rattle.world.specs.Made.{new_client};
 ghost use Rattle.world.specs.World.{if_running, is_calling};
 ghost use Rattle.world.specs.Quiet.{TellsIdleClient};
+ghost use Rattle.world.specs.Taking.{calls_in, client_takes};
 
 use cal_base::{ClientId, Oom};
 use client_node::ClientNode;
+use session::Packet;
 use std::alloc::Global;
 use std::marker::Model;
 use std::mem;
@@ -70,6 +72,26 @@ impl Clients {
         }
     }
 
+    /// How many calls a client has started; none where it doesn't run.
+    pub(crate) fn calls(&self, client: ClientId) -> u64
+        ensures { result ≡ calls_in (if_running (slice_get self.now client.0)) }
+    {
+        match self.nodes.get(client.0 as usize) {
+            None => 0,
+            Some(node) => calls(node),
+        }
+    }
+
+    /// Whether a packet brings a client that runs its next message.
+    pub(crate) fn takes(&self, client: ClientId, packet: &Packet) -> bool
+        ensures { result ≡ client_takes (if_running (slice_get self.now client.0)) packet.now }
+    {
+        match self.nodes.get(client.0 as usize) {
+            None => false,
+            Some(node) => takes(node, packet),
+        }
+    }
+
     /// Takes a client that runs out of its place, which is empty then.
     pub(crate) fn take(&mut self, client: ClientId) -> ClientNode
         requires { is_some (if_running (slice_get self.old client.0)) ≡ true }
@@ -114,5 +136,23 @@ fn is_idle(node: &Option<ClientNode>) -> bool
     match node {
         None => true,
         Some(node) => node.idle(),
+    }
+}
+
+fn calls(node: &Option<ClientNode>) -> u64
+    ensures { result ≡ calls_in node.now }
+{
+    match node {
+        None => 0,
+        Some(node) => node.calls(),
+    }
+}
+
+fn takes(node: &Option<ClientNode>, packet: &Packet) -> bool
+    ensures { result ≡ client_takes node.now packet.now }
+{
+    match node {
+        None => false,
+        Some(node) => node.takes(packet),
     }
 }

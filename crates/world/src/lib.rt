@@ -18,6 +18,7 @@ mod quiet;
 mod refusals;
 mod servers;
 mod steps;
+mod taking;
 mod world;
 
 pub use refusals::{Refused, StepRefused};

@@ -6,6 +6,7 @@ ghost use Rattle.world.specs.Made.{Begins, FormatsFor, NotMade};
 ghost use Rattle.world.specs.Quiet.{TellsIdle};
 ghost use Rattle.world.specs.Refusals.{refusal_of};
 ghost use Rattle.world.specs.Step.{IsSpelled, StepsSo};
+ghost use Rattle.world.specs.Taking.{calls_of, takes};
 ghost use Rattle.world.specs.World.{flag_of, is_busy, runs};
 
 use crate::cluster::Cluster;
@@ -94,6 +95,21 @@ impl World {
         ensures { TellsIdle self.now node result }
     {
         self.cluster.idle(node)
+    }
+
+    /// How many calls a client has started; none where it doesn't run. It takes no memory.
+    pub fn calls(&self, client: ClientId) -> u64
+        ensures { result ≡ calls_of self.now client }
+    {
+        self.cluster.calls(client)
+    }
+
+    /// Whether the packet of a number would bring its receiver the next message; not where the packet isn't sent or the
+    /// receiver doesn't run. It takes no memory.
+    pub fn takes(&self, packet: u64) -> bool
+        ensures { result ≡ takes self.now packet }
+    {
+        self.cluster.takes(packet)
     }
 
     /// How many clients there are, 1 to 16; they are numbered from 0.

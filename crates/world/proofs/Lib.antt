@@ -1,3 +1,4 @@
+mod Counting
 mod Keeping
 mod Makes
 mod Places

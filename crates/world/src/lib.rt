@@ -12,6 +12,7 @@
 
 mod clients;
 mod cluster;
+mod laws;
 mod moving;
 mod packets;
 mod quiet;
@@ -21,5 +22,6 @@ mod steps;
 mod taking;
 mod world;
 
+pub use laws::a_step_is_counted;
 pub use refusals::{Refused, StepRefused};
 pub use world::World;

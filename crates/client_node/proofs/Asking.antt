@@ -1,5 +1,5 @@
 -- An Ask has one spelling.
-use Rattle.std.proofs.Common.{◌≡◌, ◌∷◌, [], ℕ, Bool, true, false, arith, List, Option, Some, None, Result, Ok, Err, ap, refl, subst, sym, length, nat_eq, slice_index_or}
+use Rattle.std.proofs.Common.{◌≡◌, ◌∷◌, [], ℕ, Bool, true, false, arith, List, Result, Ok, Err, ap, refl, subst, sym, length, nat_eq, slice_index_or}
 use Rattle.std.specs.Bool.{Decides}
 use Rattle.std.proofs.lemmas.Bool.Decides.{Decides-eqb}
 use Rattle.message.specs.Bodies.{message_at, message_of}

@@ -1,0 +1,9 @@
+pub mod Budget
+pub mod Stops
+pub mod Nodes
+pub mod Schedule
+pub mod Lines
+pub mod Settling
+pub mod Choosing
+pub mod Noted
+pub mod Turns

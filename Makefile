@@ -1,12 +1,11 @@
 .PHONY: demo build test edits pictures
 
-# Shows a run of the first script: script, then text. It runs the program without proving it, which takes under
-# a minute on a fresh machine; what the prover says goes to build/demo.log.
+# Shows a takeover: script, then text. It runs the program without proving it; what the kit says goes to build/demo.log.
 demo:
 	@mkdir -p build
-	@cat examples/first.script
+	@cat examples/takeover.script
 	@echo
-	@cd crates/calypso && rt try -- run < ../../examples/first.script 2> ../../build/demo.log
+	@cd crates/calypso && rt try -- run < ../../examples/takeover.script 2> ../../build/demo.log
 	@echo
 	@echo "This run was not proved (build/demo.log). 'make build' proves the program and leaves it as build/calypso;"
 	@echo "'make test' is the merge gate: every proof, wrong body, test and program. README.md has their times."

@@ -1,17 +1,19 @@
-//! The program `calypso`: runs a script of file calls from standard input and prints what came of it, or judges
+//! The program `calypso`: runs a script of a cluster from standard input and prints what came of it, or judges
 //! such a text.
 //!
-//! With the one word `run` it reads a script from standard input, carries it out, prints its steps to standard output,
-//! and ends with the status that [`run_cluster`] answers. With the one word `judge` it reads a
+//! With the one word `run` it reads a script from standard input, carries it out on a disk in memory, prints its steps
+//! to standard output, and ends with the status that [`run_cluster`] answers. With the one word `judge` it reads a
 //! text and ends as [`run_judge`] answers. With any other words, those that are no UTF-8 included, it prints `Usage`
 //! and ends with 2. What is read, printed and answered is promised by the contracts of these two; this crate only
-//! hands them the words, the input and the output of the process. What they print goes out in large pieces.
+//! hands them the words, the input and the output of the process, and the disk. What they print goes out in large
+//! pieces.
 #![tactic(auto)]
 
 use cal_base::{Oom, Sink, Source, StdSink, StdSource};
 use cluster_run::run_cluster;
 use judge_run::run_judge;
 use run_status::Status;
+use shared_disk::MemDisk;
 use std::alloc::Global;
 use std::env::FillError;
 use std::io;
@@ -55,11 +57,12 @@ fn run_command<S: Source, K: Sink>(
     words: &[&str],
     source: &mut S,
     sink: &mut K,
-) -> Status {
-    match words {
-        ["judge", ..] => run_judge(alloc, words, source, sink),
-        [] | [_, ..] => run_cluster(alloc, words, source, sink),
+) -> Result<Status, Oom> {
+    if let ["judge", ..] = words {
+        return Ok(run_judge(alloc, words, source, sink));
     }
+    let mut disk = MemDisk::new(alloc)?;
+    Ok(run_cluster(alloc, words, source, sink, &mut disk))
 }
 
 /// Runs the command of these words over standard input and output. What couldn't be written at the end is a write
@@ -75,7 +78,7 @@ fn run(rt: &(impl Input + Print + AllocGlobal), words: &[String]) -> Result<Stat
     };
     let mut source = StdSource::new(rt.reader());
     let mut sink = StdSink::new(&mut writer);
-    let status = run_command(alloc, texts.as_slice(), &mut source, &mut sink);
+    let status = run_command(alloc, texts.as_slice(), &mut source, &mut sink)?;
     drop(sink);
     match writer.flush() {
         Ok(()) => Ok(status),

@@ -1,141 +1,142 @@
--- How a run ends, from what it read and what it printed.
-use Rattle.std.proofs.Common.{◌≡◌, ◌≤◌, ◌⊎◌, ℕ, List, [], ◌∷◌, length, map, get_or, Option, Err, Bor, refl, sym, ap, ◌∙◌, arith, inl, inr, subst, Bool, nat_eq}
-use Rattle.std.specs.Prelude.{codes, IsTrue}
-use Rattle.std.specs.Cmp.Lexicographic.{pointwise}
-use Rattle.std.proofs.lemmas.Slice.Eq.{bytes_eq-Decides}
-use Rattle.script.specs.declared.script.Line.{Line}
+-- How a command ends, from what it read, what it printed and what was left of the disk.
+use Rattle.std.proofs.Common.{◌≡◌, ◌≤◌, ◌⊎◌, ℕ, List, length, Option, Result, Ok, Err, refl, arith, inl, inr, subst}
+use Rattle.std.specs.Prelude.{codes}
 use Rattle.std.specs.Io.KnownBytes.{IsAtEnd}
 use Rattle.cal_base.specs.Faults.{Rose}
 use Rattle.cal_base.specs.Sink.{TakesPrefix}
-use Rattle.script.specs.Lines.{lines_of}
-use Rattle.script.specs.Script.{IsScript, IsFirstBad}
-use Rattle.script.specs.declared.bad_line.BadLine.{BadLine}
-use Rattle.script.specs.declared.script.Script.{Script}
-use Rattle.run_status.specs.Code.{status_of}
-use Rattle.cluster_run.specs.Text.{line, bad_line}
+use Rattle.fence.specs.declared.port_halt.PortHalt.{PortHalt}
+use Rattle.fence.specs.declared.port_halt.PortHalt.TheVariants.{Fenced, Failed, Stopped}
+use Rattle.run_status.specs.Edge.{Edge}
 use Rattle.run_status.specs.Printing.{Held, Prints}
 use Rattle.run_status.specs.Taking.{Left, IsFailed}
-use Rattle.cluster_run.specs.Reading.{IsReadAll}
-use Rattle.cluster_run.specs.Running.{RanOut, unbegun, behind, BeginsRun, some_lines, all_lines, RunsLines}
-use Rattle.cluster_run.specs.ScriptRun.{RunsScript, ToldOut, untold, run_out, BeginsScript, run, refusal, TellsBad}
-use Rattle.run_status.specs.Edge.{Edge}
-use Rattle.cluster_run.specs.Run.{EndsSo, IsRunCommand, TookAll, IsCutShort, IsStopped, Begins, usage, read_fault, bad_script, steps, ended, nothing, whole_steps}
 use Rattle.run_status.specs.declared.printout.PrintError.{PrintError}
 use Rattle.run_status.specs.declared.printout.PrintError.TheVariants.{WriteFault as NotWritten, OutOfMemory as NoRoom}
 use Rattle.run_status.specs.declared.status.Status.{Status}
 use Rattle.run_status.specs.declared.status.Status.TheVariants.{Ok as Fine, Usage, BadScript, ReadFault, WriteFault, DiskFault, OutOfMemory, KeyTaken, Illegal, BadText}
+use Rattle.script.specs.Lines.{lines_of}
+use Rattle.script.specs.Script.{IsScript, IsFirstBad}
+use Rattle.script.specs.declared.bad_line.BadLine.{BadLine}
+use Rattle.script.specs.declared.script.Script.{Script}
+use Rattle.cluster_run.specs.Following.{DiskAt, IsBegun, RunsFrom}
+use Rattle.cluster_run.specs.Reading.{IsReadAll}
+use Rattle.cluster_run.specs.Run.{Begins, EndsSo, IsCutShort, IsRunCommand, TookAll, bad_script, in_run, nothing, read_fault, script as of_script, usage}
+use Rattle.cluster_run.specs.ScriptRun.{FindsKey, Halts, RunsBytes, RunsScript, TellsHalt, begun, disk_fault, halted, key_taken, run}
+use Rattle.cluster_run.specs.Telling.{Tells, TellsOr, status_of_print}
+use Rattle.cluster_run.specs.Text.{bad_line, key_line, line}
+use Rattle.cluster_run.specs.Turns.{Standing}
 
--- the run of a script isn't printed whole
-pub run_failed : (bytes : List ℕ) (script : Script) (before now : Held) (error : PrintError) (status : Status) → status ≡ status_of error → IsScript bytes script → RunsLines script.lines before (Err error) now
-    → RunsScript bytes before status now
-run_failed bytes script before now NotWritten status e is ran = rw e (record { text = ran.text; begins = run script ran.text is ran.begins; takes = ran.takes; rose = ran.rose })
-run_failed bytes script before now NoRoom status e is ran = rw e (run_out script is ran)
+-- a run was begun, and ends so
+pub run_ends : (script : Script) (disk : DiskAt) (first : Standing) (before : Held) (result : Result (Unit {0}) PrintError) (status : Status) (disk' : DiskAt) (now : Held) → status ≡ status_of_print Fine result → IsBegun script disk first
+    → RunsFrom script first before result disk' now → RunsScript script disk before status disk' now
+run_ends script disk first before (Ok done) status disk' now is begins runs = rw is (record { first = first; is_begun = begins; runs = runs })
+run_ends script disk first before (Err NotWritten) status disk' now is begins runs = rw is (record { text = runs.text; begins = run runs.text (record { first = first; is_begun = begins; begins = runs.begins }); takes = runs.takes; rose = runs.rose })
+run_ends script disk first before (Err NoRoom) status disk' now is begins runs = rw is (begun (record { first = first; is_begun = begins; runs = runs }))
 
--- the same of the lines as they were handed on
-pub lines_failed : (bytes : List ℕ) (script : Script) (lines : List (ℕ × Line)) (before now : Held) (error : PrintError) (status : Status) → status ≡ status_of error → IsScript bytes script → lines ≡ script.lines
-    → RunsLines lines before (Err error) now → RunsScript bytes before status now
-lines_failed bytes script lines before now error status e is same ran = run_failed bytes script before now error status e is (subst (λ (l : List (ℕ × Line)). RunsLines l before (Err error) now) same ran)
+-- the disk failed in the format
+fault_told : (script : Script) (disk : DiskAt) (before : Held) (printed : Result (Unit {0}) PrintError) (status : Status) (disk' : DiskAt) (now : Held) → status ≡ status_of_print DiskFault printed → Halts script disk Failed disk'
+    → Prints before (line (codes "DiskFault")) printed now → RunsScript script disk before status disk' now
+fault_told script disk before (Ok done) status disk' now is halts prints = rw is (halts, prints.0)
+fault_told script disk before (Err NotWritten) status disk' now is halts prints = rw is (record { text = line (codes "DiskFault"); begins = disk_fault halts; takes = prints.0; rose = prints.1 })
+fault_told script disk before (Err NoRoom) status disk' now is halts prints = rw is (halted Failed halts prints.0)
 
--- a bad line is told, or not
-pub bad_line_told : (bytes : List ℕ) (bad : BadLine) (before now : Held) (status : Status) → IsFirstBad (lines_of bytes) bad → TellsBad bad before status now → RunsScript bytes before status now
-bad_line_told bytes bad before now Fine is told = absurd told
-bad_line_told bytes bad before now Usage is told = absurd told
-bad_line_told bytes bad before now BadScript is told = record { bad = bad; is_bad = is; printed = told }
-bad_line_told bytes bad before now ReadFault is told = absurd told
-bad_line_told bytes bad before now WriteFault is told = record { text = line (bad_line bad); begins = refusal bad is; takes = told.0; rose = told.1 }
-bad_line_told bytes bad before now OutOfMemory is told = untold told
-bad_line_told bytes bad before now DiskFault is told = absurd told
-bad_line_told bytes bad before now KeyTaken is told = absurd told
-bad_line_told bytes bad before now Illegal is told = absurd told
-bad_line_told bytes bad before now BadText is told = absurd told
+-- the disk was under a key already
+key_told : (script : Script) (disk : DiskAt) (before : Held) (key : ℕ) (printed : Result (Unit {0}) PrintError) (status : Status) (disk' : DiskAt) (now : Held) → status ≡ status_of_print KeyTaken printed
+    → FindsKey script disk key disk' → Prints before (line (key_line key)) printed now → RunsScript script disk before status disk' now
+key_told script disk before key (Ok done) status disk' now is finds prints = rw is (record { key = key; finds = finds; printed = prints.0 })
+key_told script disk before key (Err NotWritten) status disk' now is finds prints = rw is (record { text = line (key_line key); begins = key_taken key finds; takes = prints.0; rose = prints.1 })
+key_told script disk before key (Err NoRoom) status disk' now is finds prints = rw is (halted (Fenced finds.mine (record { 0 = key })) finds.halts prints.0)
+
+-- the format halted
+pub halt_told : (script : Script) (disk : DiskAt) (before : Held) (halt : PortHalt) (status : Status) (disk' : DiskAt) (now : Held) → Halts script disk halt disk' → TellsHalt before halt status now → RunsScript script disk before status disk' now
+halt_told script disk before (Fenced mine current) status disk' now halts (inl tells) = key_told script disk before current.0 tells.printed status disk' now tells.result_is (record { mine = mine; halts = halts }) tells.prints
+halt_told script disk before (Fenced mine current) status disk' now halts (inr lacks) = rw lacks.0 (halted (Fenced mine current) halts lacks.1)
+halt_told script disk before Failed status disk' now halts tells = fault_told script disk before tells.printed status disk' now tells.result_is halts tells.prints
+halt_told script disk before Stopped status disk' now halts tells = absurd tells
+
+-- the bytes are a script
+pub script_ran : (bytes : List ℕ) (script : Script) (disk : DiskAt) (before : Held) (status : Status) (disk' : DiskAt) (now : Held) → IsScript bytes script → length bytes ≤ 67108864 → RunsScript script disk before status disk' now
+    → RunsBytes bytes disk before status disk' now
+script_ran bytes script disk before Fine disk' now is fits runs = record { script = script; is_script = is; fits = fits; runs = runs }
+script_ran bytes script disk before Usage disk' now is fits runs = absurd runs
+script_ran bytes script disk before BadScript disk' now is fits runs = absurd runs
+script_ran bytes script disk before ReadFault disk' now is fits runs = absurd runs
+script_ran bytes script disk before WriteFault disk' now is fits runs = inr (record { script = script; is_script = is; fits = fits; runs = runs })
+script_ran bytes script disk before DiskFault disk' now is fits runs = record { script = script; is_script = is; fits = fits; runs = runs }
+script_ran bytes script disk before OutOfMemory disk' now is fits runs = inr (record { script = script; is_script = is; fits = fits; runs = runs })
+script_ran bytes script disk before KeyTaken disk' now is fits runs = record { script = script; is_script = is; fits = fits; runs = runs }
+script_ran bytes script disk before Illegal disk' now is fits runs = absurd runs
+script_ran bytes script disk before BadText disk' now is fits runs = absurd runs
+
+bad_printed : (bytes : List ℕ) (bad : BadLine) (disk : DiskAt) (before : Held) (printed : Result (Unit {0}) PrintError) (status : Status) (now : Held) → status ≡ status_of_print BadScript printed → IsFirstBad (lines_of bytes) bad
+    → Prints before (line (bad_line bad)) printed now → RunsBytes bytes disk before status disk now
+bad_printed bytes bad disk before (Ok done) status now is is_bad prints = rw is (record { bad = bad; is_bad = is_bad; printed = prints.0; disk_is = refl })
+bad_printed bytes bad disk before (Err NotWritten) status now is is_bad prints = rw is (inl (record { bad = bad; is_bad = is_bad; takes = prints.0; rose = prints.1; disk_is = refl }))
+bad_printed bytes bad disk before (Err NoRoom) status now is is_bad prints = rw is (inl (refl, prints.0))
+
+-- a line of the bytes is bad
+pub bad_told : (bytes : List ℕ) (bad : BadLine) (disk : DiskAt) (before : Held) (status : Status) (now : Held) → IsFirstBad (lines_of bytes) bad → TellsOr before (line (bad_line bad)) BadScript status now → RunsBytes bytes disk before status disk now
+bad_told bytes bad disk before status now is_bad (inl tells) = bad_printed bytes bad disk before tells.printed status now tells.result_is is_bad tells.prints
+bad_told bytes bad disk before status now is_bad (inr lacks) = rw lacks.0 (inl (refl, lacks.1))
 
 abbrev pub edge : Left → Held → Edge
 edge source sink = record { left = source.left; held = sink.held; source_faults = source.faults; sink_faults = sink.faults }
 
-cut : (words : List (List ℕ)) (before now : Edge) (text : List ℕ) → Begins words before now text → TakesPrefix before.held text now.held → Rose before.sink_faults now.sink_faults → IsCutShort words before now
-cut words before now text begins taken rose = record { text = text; begins = begins; count = taken.taken; rose = rose; printed = taken.grown }
+cut : (words : List (List ℕ)) (before now : Edge) (disk disk' : DiskAt) (text : List ℕ) → Begins words before now disk disk' text → TakesPrefix before.held text now.held → Rose before.sink_faults now.sink_faults → IsCutShort words before now disk disk'
+cut words before now disk disk' text begins taken rose = record { text = text; begins = begins; count = taken.taken; rose = rose; printed = taken.grown }
 
--- the words are no command, and that isn't printed whole
-pub usage_failed : (words : List (List ℕ)) (source : Left) (before now : Held) (error : PrintError) (status : Status) → status ≡ status_of error → ¬ (IsRunCommand words)
-    → Prints before (line (codes "Usage")) (Err error) now → EndsSo words (edge source before) (edge source now) status
-usage_failed words source before now NotWritten status e other prints = rw e (cut words (edge source before) (edge source now) _ (usage other refl) prints.0 prints.1)
-usage_failed words source before now NoRoom status e other prints = rw e (nothing prints.0)
+usage_printed : (words : List (List ℕ)) (source : Left) (disk : DiskAt) (before now : Held) (printed : Result (Unit {0}) PrintError) (status : Status) → status ≡ status_of_print Usage printed → ¬ (IsRunCommand words)
+    → Prints before (line (codes "Usage")) printed now → EndsSo words (edge source before) (edge source now) disk disk status
+usage_printed words source disk before now (Ok done) status is other prints = rw is (other, prints.0, refl, refl)
+usage_printed words source disk before now (Err NotWritten) status is other prints = rw is (cut words (edge source before) (edge source now) disk disk _ (usage other refl refl) prints.0 prints.1)
+usage_printed words source disk before now (Err NoRoom) status is other prints = rw is (nothing prints.0 refl)
 
--- the source failed, and that isn't printed whole
-pub read_fault_failed : (words : List (List ℕ)) (first last : Left) (before now : Held) (error : PrintError) (status : Status) → status ≡ status_of error → IsRunCommand words → IsFailed first last
-    → Prints before (line (codes "ReadFault")) (Err error) now → EndsSo words (edge first before) (edge last now) status
-read_fault_failed words first last before now NotWritten status e is failed prints = rw e (cut words (edge first before) (edge last now) _ (read_fault is failed.rose) prints.0 prints.1)
-read_fault_failed words first last before now NoRoom status e is failed prints = rw e (nothing prints.0)
+-- the words are no command
+pub usage_told : (words : List (List ℕ)) (source : Left) (disk : DiskAt) (before now : Held) (status : Status) → ¬ (IsRunCommand words) → Tells before (line (codes "Usage")) Usage status now
+    → EndsSo words (edge source before) (edge source now) disk disk status
+usage_told words source disk before now status other tells = usage_printed words source disk before now tells.printed status tells.result_is other tells.prints
+
+unread_printed : (words : List (List ℕ)) (first last : Left) (disk : DiskAt) (before now : Held) (printed : Result (Unit {0}) PrintError) (status : Status) → status ≡ status_of_print ReadFault printed → IsRunCommand words → IsFailed first last
+    → Prints before (line (codes "ReadFault")) printed now → EndsSo words (edge first before) (edge last now) disk disk status
+unread_printed words first last disk before now (Ok done) status is command failed prints = rw is (command, record { input = failed.bytes; read = failed.read.taken; rose = failed.rose; printed = prints.0 }, refl)
+unread_printed words first last disk before now (Err NotWritten) status is command failed prints = rw is (cut words (edge first before) (edge last now) disk disk _ (read_fault command failed.rose refl) prints.0 prints.1)
+unread_printed words first last disk before now (Err NoRoom) status is command failed prints = rw is (nothing prints.0 refl)
+
+-- the source failed
+pub unread_told : (words : List (List ℕ)) (first last : Left) (disk : DiskAt) (before now : Held) (status : Status) → IsRunCommand words → IsFailed first last → Tells before (line (codes "ReadFault")) ReadFault status now
+    → EndsSo words (edge first before) (edge last now) disk disk status
+unread_told words first last disk before now status command failed tells = unread_printed words first last disk before now tells.printed status tells.result_is command failed tells.prints
 
 all_read : (first last : Left) (before now : Held) (bytes : List ℕ) → IsReadAll first bytes last → TookAll (edge first before) (edge last now) bytes
 all_read first last before now bytes read = record { taken = read.read.taken; ended = read.ended }
-
-begins_run : (words : List (List ℕ)) (first last : Left) (before now : Held) (bytes : List ℕ) (script : Script) (text : List ℕ) → IsRunCommand words → IsReadAll first bytes last → IsScript bytes script → BeginsRun script.lines text
-    → Begins words (edge first before) (edge last now) text
-begins_run words first last before now bytes script _ is read is_script (some_lines made carry) = steps bytes script made is (all_read first last before now bytes read) is_script carry
-begins_run words first last before now bytes script _ is read is_script (all_lines made carry) = ended bytes script made is (all_read first last before now bytes read) is_script carry
-
-begins_script : (words : List (List ℕ)) (first last : Left) (before now : Held) (bytes text : List ℕ) → IsRunCommand words → IsReadAll first bytes last → BeginsScript bytes text → Begins words (edge first before) (edge last now) text
-begins_script words first last before now bytes _ is read (run script text is_script begins) = begins_run words first last before now bytes script text is read is_script begins
-begins_script words first last before now bytes _ is read (refusal bad is_bad) = bad_script bytes bad is (all_read first last before now bytes read) is_bad
 
 at_end : (left : Option (List ℕ)) (bytes : List ℕ) → length bytes ≤ 67108864 → IsAtEnd left ⊎ (length bytes ≡ 67108865) → IsAtEnd left
 at_end left bytes fits (inl end) = end
 at_end left bytes fits (inr many) = absurd (omega arith)
 
-run_stopped : (words : List (List ℕ)) (first last : Left) (before now : Held) (bytes : List ℕ) (script : Script) → IsRunCommand words → IsReadAll first bytes last → IsScript bytes script → RanOut script.lines before now
-    → IsStopped words (edge first before) (edge last now)
-run_stopped words first last before now bytes script is read is_script (unbegun same) = nothing same
-run_stopped words first last before now bytes script is read is_script (behind made carry printed) = whole_steps made is (record { input = bytes; script = script; read = all_read first last before now bytes read; is_script = is_script; carry_out = carry }) printed
+bytes_ran : (words : List (List ℕ)) (first last : Left) (disk disk' : DiskAt) (before now : Held) (bytes : List ℕ) (status : Status) → IsRunCommand words → IsReadAll first bytes last → RunsBytes bytes disk before status disk' now
+    → EndsSo words (edge first before) (edge last now) disk disk' status
+bytes_ran words first last disk disk' before now bytes Fine command read ran =
+    (command, record { input = bytes; script = ran.script; read = read.read.taken; ended = at_end last.left bytes ran.fits read.ended; is_script = ran.is_script; runs = ran.runs })
+bytes_ran words first last disk disk' before now bytes Usage command read ran = absurd ran
+bytes_ran words first last disk disk' before now bytes BadScript command read ran =
+    (command, record { input = bytes; bad = ran.bad; read = all_read first last before now bytes read; is_bad = ran.is_bad; printed = ran.printed; kept = ran.disk_is })
+bytes_ran words first last disk disk' before now bytes ReadFault command read ran = absurd ran
+bytes_ran words first last disk disk' before now bytes WriteFault command read (inl told) =
+    cut words (edge first before) (edge last now) disk disk' _ (bad_script bytes told.bad command (all_read first last before now bytes read) told.is_bad told.disk_is) told.takes told.rose
+bytes_ran words first last disk disk' before now bytes WriteFault command read (inr ran) =
+    cut words (edge first before) (edge last now) disk disk' _ (of_script bytes ran.script ran.runs.text command (all_read first last before now bytes read) ran.is_script ran.runs.begins) ran.runs.takes ran.runs.rose
+bytes_ran words first last disk disk' before now bytes DiskFault command read ran =
+    (command, record { input = bytes; script = ran.script; read = read.read.taken; ended = at_end last.left bytes ran.fits read.ended; is_script = ran.is_script; runs = ran.runs })
+bytes_ran words first last disk disk' before now bytes OutOfMemory command read (inl untold) = nothing untold.1 untold.0
+bytes_ran words first last disk disk' before now bytes OutOfMemory command read (inr ran) =
+    in_run command (record { input = bytes; script = ran.script; read = all_read first last before now bytes read; is_script = ran.is_script; runs_out = ran.runs })
+bytes_ran words first last disk disk' before now bytes KeyTaken command read ran =
+    (command, record { input = bytes; script = ran.script; read = read.read.taken; ended = at_end last.left bytes ran.fits read.ended; is_script = ran.is_script; runs = ran.runs })
+bytes_ran words first last disk disk' before now bytes Illegal command read ran = absurd ran
+bytes_ran words first last disk disk' before now bytes BadText command read ran = absurd ran
 
-script_stopped : (words : List (List ℕ)) (first last : Left) (before now : Held) (bytes : List ℕ) → IsRunCommand words → IsReadAll first bytes last → ToldOut bytes before now → IsStopped words (edge first before) (edge last now)
-script_stopped words first last before now bytes is read (untold same) = nothing same
-script_stopped words first last before now bytes is read (run_out script is_script ran) = run_stopped words first last before now bytes script is read is_script ran
-
--- the bytes were read and run
-pub script_ends : (words : List (List ℕ)) (first last : Left) (before now : Held) (bytes : List ℕ) (status : Status) → IsRunCommand words → IsReadAll first bytes last → RunsScript bytes before status now
-    → EndsSo words (edge first before) (edge last now) status
-script_ends words first last before now bytes Fine is read ran = (
-  is,
-  record {
-    input = bytes;
-    script = ran.script;
-    steps = ran.ran.steps;
-    read = read.read.taken;
-    ended = at_end last.left bytes ran.fits read.ended;
-    is_script = ran.is_script;
-    carry_out = ran.ran.carry_out;
-    printed = ran.ran.printed;
-  },
-)
-script_ends words first last before now bytes Usage is read ran = absurd ran
-script_ends words first last before now bytes BadScript is read ran = (is, record { input = bytes; bad = ran.bad; read = read.read.taken; ended = read.ended; is_bad = ran.is_bad; printed = ran.printed })
-script_ends words first last before now bytes ReadFault is read ran = absurd ran
-script_ends words first last before now bytes WriteFault is read ran = cut words (edge first before) (edge last now) ran.text (begins_script words first last before now bytes ran.text is read ran.begins) ran.takes ran.rose
-script_ends words first last before now bytes OutOfMemory is read ran = script_stopped words first last before now bytes is read ran
-script_ends words first last before now bytes DiskFault is read ran = absurd ran
-script_ends words first last before now bytes KeyTaken is read ran = absurd ran
-script_ends words first last before now bytes Illegal is read ran = absurd ran
-script_ends words first last before now bytes BadText is read ran = absurd ran
-
--- the same of the bytes as they were handed on
-pub bytes_end : (words : List (List ℕ)) (first last : Left) (before now : Held) (bytes given : List ℕ) (status : Status) → IsRunCommand words → IsReadAll first bytes last → given ≡ bytes → RunsScript given before status now
-    → EndsSo words (edge first before) (edge last now) status
-bytes_end words first last before now bytes given status is read same ran = script_ends words first last before now bytes status is read (subst (λ (b : List ℕ). RunsScript b before status now) same ran)
-
--- one word alone
-one_word : (words : List (Bor (List ℕ))) (word : Bor (List ℕ)) → length words ≡ 1 → map (λ w. w.now) words ≡ (get_or words 0 word).now ∷ []
-one_word [] word one = absurd (omega arith)
-one_word (first ∷ []) word one = refl
-one_word (first ∷ second ∷ more) word one = absurd (omega arith)
-
-alone : (a b : List ℕ) → a ∷ [] ≡ b ∷ [] → a ≡ b
-alone a b e = cc
-
--- the one word is the command, or not
-pub is_command : (words : List (Bor (List ℕ))) (word : Bor (List ℕ)) (same : Bool) → length words ≡ 1 → same ≡ pointwise nat_eq (get_or words 0 word).now (codes "run")
-    → (IsTrue same → IsRunCommand (map (λ w. w.now) words)) × (IsRunCommand (map (λ w. w.now) words) → IsTrue same)
-is_command words word same one is =
-    let decides = bytes_eq-Decides (get_or words 0 word).now (codes "run") in
-    let list = one_word words word one in
-    (λ true. list ∙ ap (λ (w : List ℕ). w ∷ []) (decides.0 (sym is ∙ true)), λ run. is ∙ decides.1 (alone _ _ (sym list ∙ run)))
+-- the bytes were read, and handed on
+pub bytes_end : (words : List (List ℕ)) (first last : Left) (disk disk' : DiskAt) (before now : Held) (bytes given : List ℕ) (status : Status) → IsRunCommand words → IsReadAll first bytes last → given ≡ bytes
+    → RunsBytes given disk before status disk' now → EndsSo words (edge first before) (edge last now) disk disk' status
+bytes_end words first last disk disk' before now bytes given status command read same ran =
+    bytes_ran words first last disk disk' before now bytes status command read (subst (λ (b : List ℕ). RunsBytes b disk before status disk' now) same ran)

@@ -1,7 +1,7 @@
-pub mod Calm
-pub mod Ends
-pub mod Going
-pub mod Plain
-pub mod Steps
-pub mod Taken
-pub mod ServedLines
+mod Command
+mod Ending
+mod Ends
+mod Going
+mod Good
+mod Taken
+mod Turning

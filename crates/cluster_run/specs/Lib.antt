@@ -1,7 +1,9 @@
+pub mod Following
+pub mod Happening
+pub mod Items
 pub mod Reading
 pub mod Run
-pub mod Running
 pub mod ScriptRun
-pub mod Serving
+pub mod Telling
 pub mod Text
-pub mod Trace
+pub mod Turns

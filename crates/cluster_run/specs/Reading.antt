@@ -1,7 +1,8 @@
 -- Reading a source to its end.
-use Rattle.std.specs.Prelude.{◌≡◌, ◌⊎◌, ◌≤◌, ◌++◌, ℕ, List, length}
+use Rattle.std.specs.Prelude.{◌≡◌, ◌⊎◌, ◌+◌, ◌≤◌, ◌++◌, ℕ, List, length}
 use Rattle.std.specs.Io.KnownBytes.{IsAtEnd}
 use Rattle.cal_base.specs.Faults.{Rose}
+use Rattle.cal_base.specs.Limits as limits
 use Rattle.run_status.specs.Taking.{Left, IsTaken, IsFailed}
 use Rattle.cluster_run.specs.declared.reading.ReadError.{ReadError}
 use Rattle.cluster_run.specs.declared.reading.ReadError.TheVariants.{ReadFault, OutOfMemory}
@@ -9,7 +10,7 @@ use Rattle.cluster_run.specs.declared.reading.ReadError.TheVariants.{ReadFault, 
 -- all bytes were taken, or 67,108,865 of them
 pub record IsReadAll (old : Left) (bytes : List ℕ) (now : Left) : Type 0 where
   pub read : IsTaken old bytes now
-  pub ended : IsAtEnd now.left ⊎ (length bytes ≡ 67108865)
+  pub ended : IsAtEnd now.left ⊎ (length bytes ≡ limits.script_bytes + 1)
 
 abbrev pub WhyUnread : Left → Left → ReadError → Type 0
 WhyUnread old now ReadFault = IsFailed old now
@@ -22,7 +23,7 @@ pub record IsPiece (old : Left) (bytes longer : List ℕ) (now : Left) (count : 
   pub behind : longer ≡ bytes ++ piece
   pub read : IsTaken old piece now
   pub ended : count ≡ 0 → IsAtEnd now.left
-  pub few : length longer ≤ 67108865
+  pub few : length longer ≤ limits.script_bytes + 1
 
 abbrev pub IsNoPiece : Left → Left → ReadError → Type 0
 IsNoPiece old now ReadFault = (now.left ≡ old.left) × Rose old.faults now.faults × (old.faults ≤ now.faults)

@@ -1,41 +1,40 @@
-ghost use Rattle.std.specs.Prelude.{◌↔◌, IsTrue, map};
+ghost use Rattle.std.specs.Prelude.{◌≡◌, ◌↔◌, IsTrue, map};
 ghost use Rattle.cluster_run.specs.Run.{EndsSo, IsRunCommand};
-ghost use Rattle.cluster_run.specs.ScriptRun.{RunsScript, TellsBad};
+ghost use Rattle.cluster_run.specs.Following.{RunsFrom, first_standing};
+ghost use Rattle.cluster_run.specs.Telling.{Tells, TellsOr};
+ghost use Rattle.cluster_run.specs.ScriptRun.{RunsBytes, RunsScript, TellsHalt};
+ghost use Rattle.cluster_run.specs.Text.{bad_line, key_line, line};
+ghost use Rattle.run_status.specs.declared.status.Status.TheVariants.{BadScript, KeyTaken};
+ghost use Rattle.script.specs.Script.{IsSpelledScript};
 
-use crate::lines::run_lines;
 use crate::reading::{ReadError, read_all};
-use crate::text::bad_script_text;
+use crate::run::Run;
+use crate::text::{bad_script_text, key_taken_text};
 use cal_base::{Sink, Source};
-use run_status::{Status, print, status_of};
-use script::{BadLine, ReadScriptError, read_script};
+use fence::PortHalt;
+use run_status::{PrintError, Status, print, status_of};
+use script::{BadLine, ReadScriptError, Script, read_script};
+use server_start::FormatError;
+use shared_disk::PortDisk;
 use std::alloc::Global;
+use world::World;
 
 /// Runs the command of these words: with the one word `run`, the script that the source has.
-///
-/// The script is read whole, at most 67,108,865 bytes of it, and then carried out line by line on a file
-/// tree that has the root alone; the lines of each step go to the sink as it is made, each line in one
-/// write, with room for all of a step's lines taken before the first. What each status means is said by
-/// cases in specs/Run.antt; want of memory is the one cause that no clause ties to anything.
-pub fn run_cluster<S: Source, K: Sink>(
+pub fn run_cluster<S: Source, K: Sink, D: PortDisk>(
     alloc: Global,
     words: &[&str],
     source: &mut S,
     sink: &mut K,
+    disk: &mut D,
 ) -> Status
-    ensures ends { EndsSo (map (λ word. word.now) words.now) (record { left = S.left source.old; held = K.held sink.old; source_faults = S.fault_count source.old; sink_faults = K.fault_count sink.old }) (record { left = S.left source.new; held = K.held sink.new; source_faults = S.fault_count source.new; sink_faults = K.fault_count sink.new }) result }
+    ensures ends { EndsSo (map (λ word. word.now) words.now) (record { left = S.left source.old; held = K.held sink.old; source_faults = S.fault_count source.old; sink_faults = K.fault_count sink.old }) (record { left = S.left source.new; held = K.held sink.new; source_faults = S.fault_count source.new; sink_faults = K.fault_count sink.new }) (record { disk = D.means disk.old; faults = D.fault_count disk.old }) (record { disk = D.means disk.new; faults = D.fault_count disk.new }) result }
 {
     if !is_run_command(words) {
-        return match print(sink, b"Usage\n") {
-            Ok(()) => Status::Usage,
-            Err(error) => status_of(error),
-        };
+        return tell(sink, b"Usage\n", Status::Usage);
     }
     match read_all(alloc, source) {
-        Ok(bytes) => run_script(alloc, sink, bytes.as_slice()),
-        Err(ReadError::ReadFault) => match print(sink, b"ReadFault\n") {
-            Ok(()) => Status::ReadFault,
-            Err(error) => status_of(error),
-        },
+        Ok(bytes) => run_bytes(alloc, sink, disk, bytes.as_slice()),
+        Err(ReadError::ReadFault) => tell(sink, b"ReadFault\n", Status::ReadFault),
         Err(ReadError::OutOfMemory) => Status::OutOfMemory,
     }
 }
@@ -50,15 +49,27 @@ fn is_run_command(words: &[&str]) -> bool
     }
 }
 
+/// Prints a text, with which a command ends so.
+fn tell<K: Sink>(sink: &mut K, text: &[u8], status: Status) -> Status
+    ensures { Tells (record { held = K.held sink.old; faults = K.fault_count sink.old }) text.now status result (record { held = K.held sink.new; faults = K.fault_count sink.new }) }
+{
+    match print(sink, text) {
+        Ok(()) => status,
+        Err(error) => status_of(error),
+    }
+}
+
 /// Runs a script, or tells its first bad line.
-fn run_script<K: Sink>(alloc: Global, sink: &mut K, bytes: &[u8]) -> Status
-    ensures { RunsScript bytes.now (record { held = K.held sink.old; faults = K.fault_count sink.old }) result (record { held = K.held sink.new; faults = K.fault_count sink.new }) }
+fn run_bytes<K: Sink, D: PortDisk>(
+    alloc: Global,
+    sink: &mut K,
+    disk: &mut D,
+    bytes: &[u8],
+) -> Status
+    ensures { RunsBytes bytes.now (record { disk = D.means disk.old; faults = D.fault_count disk.old }) (record { held = K.held sink.old; faults = K.fault_count sink.old }) result (record { disk = D.means disk.new; faults = D.fault_count disk.new }) (record { held = K.held sink.new; faults = K.fault_count sink.new }) }
 {
     match read_script(alloc, bytes) {
-        Ok(script) => match run_lines(alloc, sink, script.lines.as_slice()) {
-            Ok(()) => Status::Ok,
-            Err(error) => status_of(error),
-        },
+        Ok(script) => run_script(alloc, sink, disk, script),
         Err(ReadScriptError::BadLine(bad)) => tell_bad_line(alloc, sink, bad),
         Err(ReadScriptError::OutOfMemory) => Status::OutOfMemory,
     }
@@ -66,13 +77,75 @@ fn run_script<K: Sink>(alloc: Global, sink: &mut K, bytes: &[u8]) -> Status
 
 /// Tells the bad line of a script.
 fn tell_bad_line<K: Sink>(alloc: Global, sink: &mut K, bad: BadLine) -> Status
-    ensures { TellsBad bad (record { held = K.held sink.old; faults = K.fault_count sink.old }) result (record { held = K.held sink.new; faults = K.fault_count sink.new }) }
+    ensures { TellsOr (record { held = K.held sink.old; faults = K.fault_count sink.old }) (line (bad_line bad)) BadScript result (record { held = K.held sink.new; faults = K.fault_count sink.new }) }
 {
     let Ok(text) = bad_script_text(alloc, bad) else {
         return Status::OutOfMemory;
     };
-    match print(sink, text.as_slice()) {
-        Ok(()) => Status::BadScript,
-        Err(error) => status_of(error),
+    tell(sink, text.as_slice(), Status::BadScript)
+}
+
+/// Runs a script on a disk that server A formats first.
+fn run_script<K: Sink, D: PortDisk>(
+    alloc: Global,
+    sink: &mut K,
+    disk: &mut D,
+    script: Script,
+) -> Status
+    requires { IsSpelledScript script }
+    ensures { RunsScript script (record { disk = D.means disk.old; faults = D.fault_count disk.old }) (record { held = K.held sink.old; faults = K.fault_count sink.old }) result (record { disk = D.means disk.new; faults = D.fault_count disk.new }) (record { held = K.held sink.new; faults = K.fault_count sink.new }) }
+{
+    match World::new(alloc, disk, script.clients, script.window) {
+        Ok(world) => match run_lines(alloc, sink, disk, world, script) {
+            Ok(()) => Status::Ok,
+            Err(error) => status_of(error),
+        },
+        Err(FormatError::Halted(halt)) => tell_halt(alloc, sink, halt),
+        Err(FormatError::OutOfMemory) => Status::OutOfMemory,
+    }
+}
+
+/// Tells why the disk was not formatted: it is under a key already, or it failed.
+fn tell_halt<K: Sink>(alloc: Global, sink: &mut K, halt: PortHalt) -> Status
+    requires { ¬ (halt ≡ PortHalt.Stopped) }
+    ensures { TellsHalt (record { held = K.held sink.old; faults = K.fault_count sink.old }) halt result (record { held = K.held sink.new; faults = K.fault_count sink.new }) }
+{
+    match halt {
+        PortHalt::Fenced { mine: _, current } => tell_key(alloc, sink, current.0),
+        PortHalt::Failed => tell(sink, b"DiskFault\n", Status::DiskFault),
+        PortHalt::Stopped => unreachable!(),
+    }
+}
+
+/// Tells the key that the disk is under.
+fn tell_key<K: Sink>(alloc: Global, sink: &mut K, key: u64) -> Status
+    ensures { TellsOr (record { held = K.held sink.old; faults = K.fault_count sink.old }) (line (key_line key)) KeyTaken result (record { held = K.held sink.new; faults = K.fault_count sink.new }) }
+{
+    let Ok(text) = key_taken_text(alloc, key) else {
+        return Status::OutOfMemory;
+    };
+    tell(sink, text.as_slice(), Status::KeyTaken)
+}
+
+/// Carries out the lines of a script on a new cluster, and prints the text of the run.
+fn run_lines<K: Sink, D: PortDisk>(
+    alloc: Global,
+    sink: &mut K,
+    disk: &mut D,
+    world: World,
+    script: Script,
+) -> Result<(), PrintError>
+    requires spelled { IsSpelledScript script }
+    requires new { world.steps ≡ 0 }
+    ensures { RunsFrom script (first_standing script world (record { disk = D.means disk.old; faults = D.fault_count disk.old })) (record { held = K.held sink.old; faults = K.fault_count sink.old }) result (record { disk = D.means disk.new; faults = D.fault_count disk.new }) (record { held = K.held sink.new; faults = K.fault_count sink.new }) }
+{
+    let mut run = Run::new(alloc, world, script.lines)?;
+    match run.begin(sink, script.clients, script.window) {
+        Ok(()) => {}
+        Err(error) => return Err(error),
+    }
+    match run.go_on(sink, disk) {
+        Ok(()) => run.end(sink),
+        Err(error) => Err(error),
     }
 }

@@ -1,4 +1,5 @@
 ghost use Rattle.std.specs.Prelude.{◌≤◌, length, IfOk, IfErr};
+ghost use Rattle.cal_base.specs.Limits as limits;
 ghost use Rattle.run_status.specs.Taking.{Left};
 ghost use Rattle.cluster_run.specs.Reading.{IsReadAll, WhyUnread, IsPiece, IsNoPiece};
 
@@ -37,7 +38,7 @@ pub(crate) fn read_all<S: Source>(alloc: Global, source: &mut S) -> Result<Vec<u
 
 /// Reads a piece behind the bytes that were read, and answers how long it is: 0 at the end of the source.
 fn read_piece<S: Source>(source: &mut S, bytes: &mut Vec<u8>) -> Result<usize, ReadError>
-    requires { length bytes.old.items ≤ 67108864 }
+    requires { length bytes.old.items ≤ limits.script_bytes }
     ensures ok { IfOk result (IsPiece (record { left = S.left source.old; faults = S.fault_count source.old }) bytes.old.items bytes.new.items (record { left = S.left source.new; faults = S.fault_count source.new })) }
     ensures err { IfErr result (IsNoPiece (record { left = S.left source.old; faults = S.fault_count source.old }) (record { left = S.left source.new; faults = S.fault_count source.new })) }
 {

@@ -18,4 +18,4 @@ pub use law::{
     a_cut_loses_its_link, a_mending_brings_nothing, a_removal_takes_its_packet,
     a_send_adds_its_packet,
 };
-pub use links::Links;
+pub use links::{Links, lesser};

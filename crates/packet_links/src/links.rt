@@ -149,8 +149,8 @@ impl Links {
     }
 }
 
-/// The lesser of two numbers; of one, that one.
-fn lesser(first: Option<u64>, second: Option<u64>) -> Option<u64>
+/// The lesser of two numbers; of one, that one, and none where there is neither.
+pub fn lesser(first: Option<u64>, second: Option<u64>) -> Option<u64>
     ensures { result ≡ lesser first second }
 {
     match (first, second) {

@@ -114,7 +114,7 @@ fn the_first_bad_line_is_told_with_its_first_reason(rt: HostRuntime) -> Result<(
         ("", Some((1, BadWhy::First))),
         ("\nclients 1\n", Some((1, BadWhy::First))),
         ("clients 17\n", Some((1, BadWhy::First))),
-        ("clients 16\n", Some((1, BadWhy::Unbuilt))),
+        ("clients 16\n", None),
         (
             " clients  1 \n\n   \n# c0 stat\n c0  create /a \nc0 stat /",
             None,
@@ -123,8 +123,8 @@ fn the_first_bad_line_is_told_with_its_first_reason(rt: HostRuntime) -> Result<(
             "clients 1\nc0 stat /a\nc0 read 0 0\n",
             Some((3, BadWhy::Count)),
         ),
-        ("clients 1\nc0 read 0 0 1\n", Some((2, BadWhy::Unbuilt))),
-        ("clients 1\nwindow 4\n", Some((2, BadWhy::Unbuilt))),
+        ("clients 1\nc0 read 0 0 1\n", None),
+        ("clients 1\nwindow 4\n", None),
         ("clients 1\n\nwindow 4\n", Some((3, BadWhy::Word))),
         ("clients 1\n#\u{0}\nc0 open\n", Some((2, BadWhy::Byte))),
     ];

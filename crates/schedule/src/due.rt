@@ -1,11 +1,10 @@
 ghost use Rattle.std.specs.Prelude.{◌≡◌, ◌≤◌, IfOk, OnOk};
 ghost use Rattle.schedule.specs.Nodes.{AreDue, IsFirstIf, IsFirstToRunning, node_of, one_if, outstanding, with_due};
 ghost use Rattle.schedule.specs.Nodes as nodes;
-ghost use Rattle.packet_links.specs.Links.{lesser};
 ghost use Rattle.world.specs.World.{runs};
 
 use cal_base::{CLIENTS, ClientId, Items, NodeId, Oom, ServerId};
-use packet_links::Links;
+use packet_links::{Links, lesser};
 use std::alloc::Global;
 use world::World;
 
@@ -65,17 +64,6 @@ fn first_if_running(world: &World, links: &Links, node: NodeId) -> Option<u64>
         links.first_for(node)
     } else {
         None
-    }
-}
-
-/// The lesser of two numbers, of which each may lack.
-fn lesser(one: Option<u64>, other: Option<u64>) -> Option<u64>
-    ensures { result ≡ lesser one other }
-{
-    match (one, other) {
-        (Some(one), Some(other)) => Some(one.min(other)),
-        (Some(one), None) => Some(one),
-        (None, other) => other,
     }
 }
 

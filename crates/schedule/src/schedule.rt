@@ -42,6 +42,9 @@ impl Model for Schedule {
 impl Schedule {
     /// The schedule of these lines, of which none is carried out: no packet waits, no link is cut, and no stop is
     /// armed.
+    ///
+    /// # Errors
+    /// Want of memory.
     pub fn new(alloc: Global, lines: Items<(u32, Line)>) -> Result<Schedule, Oom>
         requires { All (λ line. IsLine line.1) lines }
         ensures { IfOk result (λ schedule. schedule ≡ begun lines) }
@@ -56,6 +59,9 @@ impl Schedule {
     }
 
     /// What comes next, where the cluster stands so: a turn of the `settle` that is under way, else the next line.
+    ///
+    /// # Errors
+    /// Want of memory: the schedule is spent then.
     pub fn next(&mut self, world: &World) -> Result<Choice, Oom>
         ensures chooses { IfOk result (λ choice. Chooses world.now self.old choice self.new) }
         ensures spelled { IfOk result HasSpelledEvent }
@@ -72,7 +78,10 @@ impl Schedule {
     }
 
     /// Takes notice of a step that was made, as the cluster stands after it; `first` is the number of the first packet
-    /// that it sent.
+    /// that it sent. All of its packets have numbers below 2^64.
+    ///
+    /// # Errors
+    /// Want of memory: the schedule is spent then.
     pub fn note(&mut self, world: &World, first: u64, step: &TraceStep) -> Result<(), Oom>
         requires { first + length step.now.sent < 2 ^ 64 }
         ensures noted { OnOk result (self.new ≡ after_step world.now self.old first step.now) }

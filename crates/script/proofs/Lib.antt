@@ -2,7 +2,6 @@ pub mod LinesRead
 pub mod PathWords
 pub mod ReadLines
 pub mod ReadPlaces
-pub mod ServedLines
 pub mod Spelled
 pub mod SpelledScript
 pub mod Values

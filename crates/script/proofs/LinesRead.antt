@@ -7,7 +7,7 @@ use Rattle.std.specs.Borrow.{Bor}
 use Rattle.std.specs.List.{slice_split}
 use Rattle.std.specs.Option.{option_map_or}
 use Rattle.script.specs.Lines.{NumberedLine, lines_of, numbered, last_line, parts_of}
-use Rattle.script.specs.Reasons.{IsGood, reading}
+use Rattle.script.specs.Reasons.{IsGood, line_said}
 use Rattle.script.specs.Script.{WhyNotRead, IsScript, WhyBad, with_said, with_read, with_lines, no_lines}
 use Rattle.script.specs.declared.bad_line.BadWhy.{BadWhy}
 use Rattle.script.specs.declared.bad_line.BadWhy.TheVariants.{Big, Many}
@@ -35,18 +35,18 @@ pub record IsWithin (Read : Type 0) (total through left : ℕ) : Type 0 where
 abbrev line_at : ℕ → ℕ → List ℕ → NumberedLine
 line_at number through text = record { number = number; through = through; text = text }
 
-with_lines-append : (script : Script) (lines : List NumberedLine) (line : NumberedLine) → with_lines script (lines ++ line ∷ []) ≡ with_read (with_lines script lines) line.number (reading line)
+with_lines-append : (script : Script) (lines : List NumberedLine) (line : NumberedLine) → with_lines script (lines ++ line ∷ []) ≡ with_read (with_lines script lines) line.number (line_said line)
 with_lines-append script [] line = refl
-with_lines-append script (first ∷ lines) line = with_lines-append (with_read script first.number (reading first)) lines line
+with_lines-append script (first ∷ lines) line = with_lines-append (with_read script first.number (line_said first)) lines line
 
 -- a good line holds no byte behind the limit, and isn't behind the last
-big_line : (line : NumberedLine) → nat_lt 67108864 line.through ≡ true → reading line ≡ Err Big
+big_line : (line : NumberedLine) → nat_lt 67108864 line.through ≡ true → line_said line ≡ Err Big
 big_line line e = rw e refl
 
-many_line : (line : NumberedLine) → nat_lt 67108864 line.through ≡ false → nat_lt 65536 line.number ≡ true → reading line ≡ Err Many
+many_line : (line : NumberedLine) → nat_lt 67108864 line.through ≡ false → nat_lt 65536 line.number ≡ true → line_said line ≡ Err Many
 many_line line small e = rw (small, e) refl
 
-not_both : (said : Said) (why : BadWhy) (line : NumberedLine) → reading line ≡ Ok said → reading line ≡ Err why → ⊥
+not_both : (said : Said) (why : BadWhy) (line : NumberedLine) → line_said line ≡ Ok said → line_said line ≡ Err why → ⊥
 not_both said why line one other = let same : Ok said ≡ Err why = sym one ∙ other in grind arith
 
 less : (a b : ℕ) → a < b → nat_lt a b ≡ true
@@ -55,14 +55,18 @@ less a b h = grind (arith, nat_tests)
 no_less : (a b : ℕ) → ¬ (a < b) → nat_lt a b ≡ false
 no_less a b h = grind (arith, nat_tests)
 
-is_small : (line : NumberedLine) (said : Said) → reading line ≡ Ok said → ¬ (67108864 < line.through)
+is_small : (line : NumberedLine) (said : Said) → line_said line ≡ Ok said → ¬ (67108864 < line.through)
 is_small line said reads big = not_both said Big line reads (big_line line (less _ _ big))
 
-is_within : (line : NumberedLine) (said : Said) → reading line ≡ Ok said → ¬ (67108864 < line.through) × ¬ (65536 < line.number)
+is_within : (line : NumberedLine) (said : Said) → line_said line ≡ Ok said → ¬ (67108864 < line.through) × ¬ (65536 < line.number)
 is_within line said reads = (is_small line said reads, λ many. not_both said Many line reads (many_line line (no_less _ _ (is_small line said reads)) (less _ _ many)))
 
+-- a good line has a number within the limit
+pub good_number : (line : NumberedLine) → IsGood line → line.number ≤ 65536
+good_number line good = let within : ¬ (65536 < line.number) = (is_within line good.said good.is).1 in omega arith
+
 -- a good line holds no byte behind the limit
-pub good_is_small : (number through : ℕ) (text : List ℕ) (said : Said) → reading (line_at number through text) ≡ Ok said → through ≤ 67108864
+pub good_is_small : (number through : ℕ) (text : List ℕ) (said : Said) → line_said (line_at number through text) ≡ Ok said → through ≤ 67108864
 good_is_small number through text said reads = let small : ¬ (67108864 < through) = is_small (line_at number through text) said reads in omega arith
 
 numbered_cons : (n at : ℕ) (text : List ℕ) (parts : List (List ℕ)) → 0 < length parts → numbered n at (text ∷ parts) ≡ line_at n (at + length text + 1) text ∷ numbered (n + 1) (at + length text + 1) parts
@@ -98,7 +102,7 @@ next_line number through taken left text rest is is_taken some = ap (numbered nu
 -- one more line is read
 pub one_more : (all : List NumberedLine) (number through taken : ℕ) (left : List (List ℕ)) (text : List ℕ) (rest : Option (Bor (List ℕ))) (begun script longer : Script) (said : Said)
     → AreRead all number through left begun script → left ≡ text ∷ parts_of rest → taken ≡ length text + option_map_or (λ _. 1) rest 0 → taken ≢ 0
-    → reading (line_at number (through + taken) text) ≡ Ok said → longer ≡ with_said script number said
+    → line_said (line_at number (through + taken) text) ≡ Ok said → longer ≡ with_said script number said
     → AreRead all (number + 1) (through + taken) (parts_of rest) begun longer
 one_more all number through taken left text rest begun script longer said so is is_taken some reads is_longer =
     let line : NumberedLine = line_at number (through + taken) text in
@@ -155,7 +159,7 @@ first_is_bad taken bytes text rest OutOfMemory is is_taken why = tt
 
 -- a line behind a good first one is bad
 pub later_is_bad : (taken : ℕ) (bytes text : List ℕ) (rest : Option (Bor (List ℕ))) (error : ReadScriptError) → slice_split (λ byte. byte == 10) bytes ≡ text ∷ parts_of rest → taken ≡ length text + option_map_or (λ _. 1) rest 0
-    → (said : Said) → reading (line_at 1 taken text) ≡ Ok said → WhyNotRead (numbered 2 taken (parts_of rest)) error → WhyNotRead (lines_of bytes) error
+    → (said : Said) → line_said (line_at 1 taken text) ≡ Ok said → WhyNotRead (numbered 2 taken (parts_of rest)) error → WhyNotRead (lines_of bytes) error
 later_is_bad taken bytes text rest (Bad bad) is is_taken said reads why = record {
   before = line_at 1 taken text ∷ why.before;
   line = why.line;
@@ -169,12 +173,12 @@ later_is_bad taken bytes text rest OutOfMemory is is_taken said reads why = tt
 
 -- all lines are good, and this is the script
 pub all_read : (taken : ℕ) (bytes text : List ℕ) (rest : Option (Bor (List ℕ))) (said : Said) (begun script : Script) → slice_split (λ byte. byte == 10) bytes ≡ text ∷ parts_of rest → taken ≡ length text + option_map_or (λ _. 1) rest 0
-    → reading (line_at 1 taken text) ≡ Ok said → begun ≡ with_said no_lines 1 said → All IsGood (numbered 2 taken (parts_of rest)) → script ≡ with_lines begun (numbered 2 taken (parts_of rest)) → IsScript bytes script
+    → line_said (line_at 1 taken text) ≡ Ok said → begun ≡ with_said no_lines 1 said → All IsGood (numbered 2 taken (parts_of rest)) → script ≡ with_lines begun (numbered 2 taken (parts_of rest)) → IsScript bytes script
 all_read taken bytes text rest said begun script is is_taken reads is_begun others says =
     let lines = first_line taken bytes text rest is is_taken in
     let behind = numbered 2 taken (parts_of rest) in
     let good : IsGood (line_at 1 taken text) = record { said = said; is = reads } in
-    let from : with_read no_lines 1 (reading (line_at 1 taken text)) ≡ begun = ap (λ (r : Result Said BadWhy). with_read no_lines 1 r) reads ∙ sym is_begun in
+    let from : with_read no_lines 1 (line_said (line_at 1 taken text)) ≡ begun = ap (λ (r : Result Said BadWhy). with_read no_lines 1 r) reads ∙ sym is_begun in
     record {
       good = rw lines (All-cons IsGood (line_at 1 taken text) behind good others);
       says = rw lines (says ∙ sym (ap (λ (s : Script). with_lines s behind) from));

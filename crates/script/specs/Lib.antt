@@ -6,6 +6,5 @@ pub mod Lines
 pub mod Outcome
 pub mod Reasons
 pub mod Script
-pub mod Served
 pub mod Spelling
 pub mod Words

@@ -5,7 +5,6 @@ use Rattle.cal_base.specs.Limits as limits
 use Rattle.script.specs.CommandLine.{first_said, words_said}
 use Rattle.script.specs.Lines.{NumberedLine}
 use Rattle.script.specs.Outcome.{then_read}
-use Rattle.script.specs.Served.{served}
 use Rattle.script.specs.Words.{words}
 use Rattle.script.specs.declared.bad_line.BadWhy.{BadWhy}
 use Rattle.script.specs.declared.bad_line.BadWhy.TheVariants.{Big, Many, Long, Byte}
@@ -34,19 +33,15 @@ is_comment (byte ∷ text) = byte == 35
 abbrev pub text_said : ℕ → List ℕ → Result Said BadWhy
 text_said number text = if number == 1 then first_said (words text) else if is_comment text then Ok Nothing else words_said number (words text)
 
--- what a line says by the whole grammar, or the first reason why it is bad
+-- what a line says, or the first reason why it is bad
 abbrev pub line_said : NumberedLine → Result Said BadWhy
 line_said line = then_read (fits line) (λ none. text_said line.number line.text)
 
--- the same, where what isn't served yet is bad for that reason alone
-abbrev pub reading : NumberedLine → Result Said BadWhy
-reading line = then_read (line_said line) served
-
 -- this is the first reason why the line is bad
 abbrev pub IsFirstReason : NumberedLine → BadWhy → Type 0
-IsFirstReason line why = reading line ≡ Err why
+IsFirstReason line why = line_said line ≡ Err why
 
 -- the line isn't bad: it says this
 pub record IsGood (line : NumberedLine) : Type 0 where
   pub said : Said
-  pub is : reading line ≡ Ok said
+  pub is : line_said line ≡ Ok said

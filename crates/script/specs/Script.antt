@@ -1,8 +1,7 @@
-use Rattle.std.specs.Prelude.{◌≡◌, ◌≤◌, ℕ, List, [], ◌∷◌, ◌++◌, All, true, Result, Ok, Err, ⊤}
+use Rattle.std.specs.Prelude.{◌≡◌, ◌≤◌, ℕ, List, [], ◌∷◌, ◌++◌, length, All, Result, Ok, Err, ⊤}
 use Rattle.cal_base.specs.Limits as limits
 use Rattle.script.specs.Lines.{NumberedLine, lines_of}
-use Rattle.script.specs.Reasons.{IsGood, IsFirstReason, reading}
-use Rattle.script.specs.Served.{is_served_line}
+use Rattle.script.specs.Reasons.{IsGood, IsFirstReason, line_said}
 use Rattle.script.specs.Spelling.{IsLine}
 use Rattle.script.specs.declared.bad_line.BadLine.{BadLine}
 use Rattle.script.specs.declared.bad_line.BadWhy.{BadWhy}
@@ -27,7 +26,7 @@ with_read script number (Err why) = script
 -- a script and what these lines say, one after the other, each read by itself
 abbrev pub with_lines : Script → List NumberedLine → Script
 with_lines script [] = script
-with_lines script (line ∷ lines) = with_lines (with_read script line.number (reading line)) lines
+with_lines script (line ∷ lines) = with_lines (with_read script line.number (line_said line)) lines
 
 -- no line yet, and a window of 4
 abbrev pub no_lines : Script
@@ -38,17 +37,12 @@ pub record IsScript (bytes : List ℕ) (script : Script) : Type 0 where
   pub good : All IsGood (lines_of bytes)
   pub says : script ≡ with_lines no_lines (lines_of bytes)
 
--- a script that is served: of one client, with a window of 4, and of served lines
-pub record IsServedScript (script : Script) : Type 0 where
-  pub one_client : script.clients ≡ 1
-  pub window_of_four : script.window ≡ 4
-  pub lines : All (λ line. is_served_line line.1 ≡ true) script.lines
-
--- a script whose counts and lines are within the limits of their places
+-- a script whose counts and lines are within the limits of their places, with at most 65,536 lines
 pub record IsSpelledScript (script : Script) : Type 0 where
   pub clients : (1 ≤ script.clients) × (script.clients ≤ limits.clients)
   pub window : (1 ≤ script.window) × (script.window ≤ limits.window)
   pub lines : All (λ line. IsLine line.1) script.lines
+  pub few : length script.lines ≤ limits.script_lines
 
 -- the first of the lines to which a reason applies, and the first of its reasons
 pub record IsFirstBad (lines : List NumberedLine) (bad : BadLine) : Type 0 where

@@ -22,8 +22,6 @@ pub enum BadWhy {
     Path,
     /// A word isn't bytes in hexadecimal, or too many of them.
     Hex,
-    /// It isn't served yet.
-    Unbuilt,
 }
 
 /// A bad line of a script.

@@ -1,14 +1,14 @@
 ghost use Rattle.std.specs.Prelude.{◌≡◌, ◌+◌, ◌<◌, ◌≤◌, ◌^◌, ◌∷◌, ◌==◌, ◌++◌, [], length, Ok, IfOk, IfErr, OnOk, All};
 ghost use Rattle.script.specs.Lines.{lines_of, numbered, parts_of};
 ghost use Rattle.script.specs.Outcome.{Answers};
-ghost use Rattle.script.specs.Reasons.{IsGood, line_said, reading};
-ghost use Rattle.script.specs.Script.{IsScript, IsServedScript, IsSpelledScript, WhyNotRead, WhyBad, with_said, with_lines, no_lines};
+ghost use Rattle.script.specs.Reasons.{IsGood, line_said};
+ghost use Rattle.script.specs.Script.{IsScript, IsSpelledScript, WhyNotRead, WhyBad, with_said, with_lines, no_lines};
 ghost use Rattle.std.specs.List.{slice_split};
 ghost use Rattle.std.specs.Option.{option_map_or};
 ghost use Rattle.script.specs.declared.reading.ReadScriptError.TheVariants.{OutOfMemory};
 
 use crate::bad_line::BadLine;
-use crate::line_check::{PlacedLine, read_placed, read_served};
+use crate::line_check::{PlacedLine, read_placed};
 use crate::read_error::ReadLineError;
 use crate::script::{Line, Said, Script};
 use cal_base::{DEFAULT_WINDOW, Items, Oom, cut_at};
@@ -30,9 +30,8 @@ impl From<Oom> for ReadScriptError {
     }
 }
 
-/// Reads one line by the whole grammar, also where it isn't served yet: the line of this number, from 1,
-/// that ends after so many bytes of its script, its line feed included. A line that isn't read is bad for
-/// the first reason.
+/// Reads one line by itself: the line of this number, from 1, that ends after so many bytes of its
+/// script, its line feed included. A line that isn't read is bad for the first reason.
 pub fn read_line(
     alloc: Global,
     number: u32,
@@ -54,10 +53,9 @@ pub fn read_line(
 /// Reads a script: its lines up to 65,536 of at most 70,000 bytes each, `clients N` as the first, maybe
 /// `window K` as the second, and then calls of clients, commands, comments and lines without words. What
 /// is read is the script of these bytes; else the first bad line is told, with the first reason that
-/// applies to it. A line that isn't served yet is bad for that reason.
+/// applies to it.
 pub fn read_script(alloc: Global, bytes: &[u8]) -> Result<Script, ReadScriptError>
     ensures ok { IfOk result (IsScript bytes.now) }
-    ensures served { IfOk result IsServedScript }
     ensures spelled { IfOk result IsSpelledScript }
     ensures fits { OnOk result (length bytes.now ≤ 67108864) }
     ensures bad { IfErr result (WhyNotRead (lines_of bytes.now)) }
@@ -145,7 +143,7 @@ fn read_next(
     through: usize,
     text: &[u8],
 ) -> Result<Said, ReadScriptError>
-    ensures said { IfOk result (λ said. reading (record { number = number; through = through; text = text.now }) ≡ Ok said) }
+    ensures said { IfOk result (λ said. line_said (record { number = number; through = through; text = text.now }) ≡ Ok said) }
     ensures bad { IfErr result (WhyBad (record { number = number; through = through; text = text.now })) }
 {
     let placed = PlacedLine {
@@ -153,7 +151,7 @@ fn read_next(
         through,
         text,
     };
-    match read_served(alloc, placed) {
+    match read_placed(alloc, placed) {
         Ok(said) => Ok(said),
         Err(ReadLineError::Bad(why)) => {
             Err(ReadScriptError::BadLine(BadLine { line: number, why }))

@@ -1,5 +1,5 @@
 use Rattle.std.proofs.Common.{arith}
-use Rattle.cluster_run.proofs.Ends.{is_command}
+use Rattle.cluster_run.proofs.Command.{is_command}
 use Rattle.cluster_run.proofs.cluster.is_run_command.Goals as goal
 
 pub returns-in-len1 : goal.returns-in-len1

@@ -1,8 +1,10 @@
-use Rattle.cluster_run.proofs.Ends.{lines_failed, bad_line_told}
+use Rattle.cluster_run.proofs.Ending.{is_begun}
+use Rattle.cluster_run.proofs.Ends.{halt_told, run_ends}
+use Rattle.std.proofs.Common.{Err}
 use Rattle.cluster_run.proofs.cluster.run_script.Goals as goal
 
 pub returns-in-Ok : goal.returns-in-Ok
-returns-in-Ok g c = lines_failed _ c.in-Ok.script _ _ _ c.in-Err.error _ c.status_of.ensures c.in-Ok.ensures.ok c.as_slice.ensures c.in-Err.ensures
+returns-in-Ok g c = run_ends c.args.script _ _ _ (Err c.in-Err.error) _ _ _ c.status_of.ensures (is_begun c.args.script c.in-Ok.world _ _ c.in-Ok.ensures.begins c.in-Ok.ensures.disk c.in-Ok.ensures.stands) c.in-Err.ensures
 
-pub returns-in-Err-BadLine : goal.returns-in-Err-BadLine
-returns-in-Err-BadLine g c = bad_line_told c.args.bytes.now c.in-Err-BadLine.bad _ _ _ (rw c.in-Err-BadLine.field-0-is at c.in-Err-BadLine.ensures.bad) c.tell_bad_line.ensures
+pub returns-in-Err-Halted : goal.returns-in-Err-Halted
+returns-in-Err-Halted g c = halt_told _ _ _ c.in-Err-Halted.halt _ _ _ (rw c.in-Err-Halted.field-0-is at c.in-Err-Halted.ensures.disk) c.tell_halt.ensures

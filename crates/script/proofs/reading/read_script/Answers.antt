@@ -1,10 +1,9 @@
-use Rattle.std.proofs.Common.{ℕ, List, ap, sym, subst, ◌∙◌}
+use Rattle.std.proofs.Common.{ℕ, List, ap, ◌∙◌}
 use Rattle.script.specs.declared.script.Line.{Line}
 use Rattle.script.proofs.LinesRead.{first_is_bad, later_is_bad, all_read}
-use Rattle.script.proofs.ServedLines.{lines_serve, first_serves}
-use Rattle.script.proofs.SpelledScript.{lines_spell, first_spells}
-use Rattle.script.specs.Lines.{numbered, parts_of}
-use Rattle.script.specs.Script.{with_said, IsServedScript, IsSpelledScript}
+use Rattle.script.proofs.SpelledScript.{script_spells}
+use Rattle.script.specs.Lines.{parts_of}
+use Rattle.script.specs.Script.{with_said}
 use Rattle.script.proofs.reading.read_script.Goals as goal
 
 pub returns-in-Err-clause-bad : goal.returns-in-Err-clause-bad
@@ -18,14 +17,7 @@ returns-in-Ok-read_lines-clause-ok c =
 pub returns-in-Err-read_lines-clause-bad : goal.returns-in-Err-read_lines-clause-bad
 returns-in-Err-read_lines-clause-bad c = later_is_bad _ c.args.bytes.now _ c.cut_line-first.result.rest c.in-Err-read_lines.error c.cut_line-first.ensures.parts c.cut_line-first.ensures.taken c.in-Ok.said c.in-Ok.ensures.said c.in-Err-read_lines.ensures.bad
 
-pub returns-in-Ok-read_lines-clause-served : goal.returns-in-Ok-read_lines-clause-served
-returns-in-Ok-read_lines-clause-served c =
-    let begun = c.in_ok-say-in-Ok.ensures ∙ ap (λ (lines : List (ℕ × Line)). with_said (record { clients = 0; window = 4; lines = lines }) 1 c.in-Ok.said) c.new.ensures in
-    let first = subst IsServedScript (sym begun) (first_serves c.cut_line-first.result.taken c.cut_line-first.result.text.now c.in-Ok.said c.in-Ok.ensures.said) in
-    subst IsServedScript (sym c.in-Ok-read_lines.ensures.ok) (lines_serve (numbered 2 c.cut_line-first.result.taken (parts_of c.cut_line-first.result.rest)) _ c.in-Ok-read_lines.ensures.good first)
-
 pub returns-in-Ok-read_lines-clause-spelled : goal.returns-in-Ok-read_lines-clause-spelled
 returns-in-Ok-read_lines-clause-spelled c =
     let begun = c.in_ok-say-in-Ok.ensures ∙ ap (λ (lines : List (ℕ × Line)). with_said (record { clients = 0; window = 4; lines = lines }) 1 c.in-Ok.said) c.new.ensures in
-    let first = subst IsSpelledScript (sym begun) (first_spells c.cut_line-first.result.taken c.cut_line-first.result.text.now c.in-Ok.said c.in-Ok.ensures.said) in
-    subst IsSpelledScript (sym c.in-Ok-read_lines.ensures.ok) (lines_spell (numbered 2 c.cut_line-first.result.taken (parts_of c.cut_line-first.result.rest)) _ c.in-Ok-read_lines.ensures.good first)
+    script_spells c.cut_line-first.result.taken c.cut_line-first.result.text.now (parts_of c.cut_line-first.result.rest) c.in-Ok.said _ _ c.in-Ok.ensures.said begun c.in-Ok-read_lines.ensures.good c.in-Ok-read_lines.ensures.ok

@@ -12,7 +12,7 @@ use Rattle.run_status.specs.Printing.{line, Held}
 use Rattle.run_status.specs.Taking.{Left, IsTaken, IsFailed}
 use Rattle.run_status.specs.declared.status.Status.{Status}
 use Rattle.run_status.specs.declared.status.Status.TheVariants.{Ok as Fine, Usage, BadScript, ReadFault as NotRead, WriteFault, DiskFault, OutOfMemory as NoRoom, KeyTaken, Illegal as IllegalStatus, BadText}
-use Rattle.text_lines.specs.Outcome.{outside}
+use Rattle.line_words.specs.Outcome.{outside}
 use Rattle.text_lines.specs.Telling.{told_in}
 use Rattle.judge_run.specs.Texts.{text_bytes, line_bytes, piece_bytes, text_of, IsUncut, IsWithin, AreFit, answer_count, with_told}
 use Rattle.judge_run.specs.Verdicts.{IsFound, IsBad, verdict_line, status_of}

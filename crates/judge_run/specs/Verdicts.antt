@@ -5,7 +5,7 @@ use Rattle.std.specs.Io.KnownBytes.{IsAtEnd}
 use Rattle.tree_law.specs.declared.entry.Entry.{Entry}
 use Rattle.history_check.specs.Fits.{FitTo}
 use Rattle.history_check.specs.declared.told.Told.{Told}
-use Rattle.text_lines.specs.Outcome.{outside}
+use Rattle.line_words.specs.Outcome.{outside}
 use Rattle.text_lines.specs.Telling.{told_in}
 use Rattle.run_status.specs.declared.status.Status.{Status}
 use Rattle.run_status.specs.declared.status.Status.TheVariants.{Ok as Fine, Illegal as IllegalStatus, BadText}

@@ -5,8 +5,9 @@ ghost use Rattle.judge_run.specs.Texts.{IsUncut};
 use crate::verdict::{BadTextWhy, Counts};
 use cal_base::Oom;
 use history_check::{Judge, TakeError, Told, a_text_has_one_history};
+use line_words::ReadWordsError;
 use std::alloc::Global;
-use text_lines::{ReadToldError, read_told};
+use text_lines::read_told;
 
 /// Bytes of a text.
 pub(crate) const TEXT_BYTES: u64 = 17_179_869_184;
@@ -62,8 +63,8 @@ impl Judging {
         }
         match read_told(alloc, line) {
             Ok(told) => self.take_told(told, line.len()),
-            Err(ReadToldError::Form) => Ok(Passed::Bad(BadTextWhy::Form)),
-            Err(ReadToldError::OutOfMemory) => Err(Oom),
+            Err(ReadWordsError::Form) => Ok(Passed::Bad(BadTextWhy::Form)),
+            Err(ReadWordsError::OutOfMemory) => Err(Oom),
         }
     }
 

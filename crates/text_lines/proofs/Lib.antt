@@ -1,5 +1,3 @@
-pub mod Kept
-pub mod Joined
 pub mod OneWord
 pub mod Spelled
 pub mod Within

@@ -6,8 +6,8 @@ use Rattle.std.proofs.lemmas.Bool.Decides.{nat_tests}
 use Rattle.std.proofs.lemmas.List.Splits.{length-slice_split, slice_split_none}
 use Rattle.script.specs.Numbers.{is_hex_digit}
 use Rattle.text_lines.specs.Replies.{are_none, are_bytes}
-use Rattle.text_lines.specs.Words.{words}
-use Rattle.text_lines.proofs.Kept.{text_again}
+use Rattle.line_words.specs.Words.{words}
+use Rattle.line_words.proofs.Kept.{text_again}
 
 some_left : (parts : List (List ℕ)) → 0 < length parts → are_none parts ≡ false
 some_left [] h = absurd (omega arith)

@@ -1,45 +1,32 @@
 -- What a line can tell is read from its words, and from these written as a line.
-use Rattle.std.proofs.Common.{◌≡◌, ◌≤◌, ℕ, Bool, true, false, List, [], ◌∷◌, cond, not, refl, sym, ap, ◌∙◌, arith, Result, Ok, Err, Option, Some, None, codes, decimal, bytes_eq}
+use Rattle.std.proofs.Common.{◌≡◌, ◌≤◌, ℕ, Bool, true, false, List, [], ◌∷◌, cond, refl, sym, ap, ◌∙◌, arith, Result, Ok, Err, Option, Some, None, codes, decimal, bytes_eq}
 use Rattle.std.specs.List.{join_with_byte}
 use Rattle.std.proofs.lemmas.Slice.Eq.{bytes_eq-Decides}
 use Rattle.cal_base.specs.declared.identity.ClientId.{ClientId}
 use Rattle.cal_base.specs.declared.identity.Ino.{Ino}
 use Rattle.tree_law.specs.declared.call.Call.{Call}
-use Rattle.tree_law.specs.declared.call.Call.TheVariants.{Create, Mkdir, Unlink, Rmdir, Rename, Open, Close, Read, Write, Truncate, Stat, Readdir, Fsync}
-use Rattle.script.specs.CallLine.{call_said}
 use Rattle.script.specs.Numbers.{number_in}
 use Rattle.script.specs.Spelling.{client_word, call_words, IsClient, IsWide, IsCall}
 use Rattle.script.specs.declared.bad_line.BadWhy.TheVariants.{Number}
 use Rattle.script.proofs.ReadPlaces.{no_value}
-use Rattle.script.proofs.Spelled.{call_written}
-use Rattle.script.proofs.Written.{number_written, client_written}
+use Rattle.script.proofs.Written.{number_written}
 use Rattle.history_check.specs.declared.told.Told.{Told}
 use Rattle.history_check.specs.declared.told.Told.TheVariants.{Starts, Enters, Flushes, Purges, Answers as Answered}
-use Rattle.text_lines.specs.Outcome.{outside, then_read, in_form}
-use Rattle.text_lines.specs.Places.{client_of, number_of, ino_of, any_ino, new_ino, are_whole, is_fill, call_of}
+use Rattle.line_words.specs.Outcome.{outside, then_read, in_form}
+use Rattle.line_words.specs.Places.{client_of, number_of, call_of}
+use Rattle.text_lines.specs.Places.{ino_of, any_ino, new_ino}
 use Rattle.text_lines.specs.Replies.{reply_of}
 use Rattle.text_lines.specs.Spelling.{new_word, told_words, IsNew, IsReply, IsTold}
 use Rattle.text_lines.specs.Telling.{start_told, call_entry_told, flush_told, purge_told, answer_told, tells, words_told, told_in}
-use Rattle.text_lines.specs.Words.{words, first_as}
-use Rattle.text_lines.specs.declared.read_error.OutOfForm.{OutOfForm}
-use Rattle.text_lines.proofs.Joined.{are_free, and_both, words_joined, words_free}
-use Rattle.text_lines.proofs.Kept.{text_again}
-use Rattle.text_lines.proofs.WordsFree.{number_free, client_free, new_free, call_free, call_whole}
-
--- what follows of a value that is read
-chain : {T U : Type 0} (r : Result T OutOfForm) (value : T) (next : T → Result U OutOfForm) (result : Result U OutOfForm) → r ≡ Ok value → next value ≡ result → then_read r next ≡ result
-chain r value next result e f = ap (λ x. then_read x next) e ∙ f
-
-first_is : {T : Type 0} (read : List ℕ → Result T OutOfForm) (word : List ℕ) (behind : List (List ℕ)) (value : T) → read word ≡ Ok value → first_as read (word ∷ behind) ≡ Ok (value, behind)
-first_is read word behind value e = ap (λ x. then_read x (λ value. Ok (value, behind))) e
+use Rattle.line_words.specs.Words.{words, first_as}
+use Rattle.line_words.specs.declared.read_error.OutOfForm.{OutOfForm}
+use Rattle.line_words.proofs.Joined.{are_free, and_both, words_joined, words_free}
+use Rattle.line_words.proofs.Kept.{text_again}
+use Rattle.line_words.proofs.WordsFree.{number_free, client_free, call_free}
+use Rattle.line_words.proofs.Reading.{chain, first_is, number_is, client_is, call_is}
+use Rattle.text_lines.proofs.WordsFree.{new_free}
 
 -- places
-
-number_is : (n : ℕ) → IsWide n → number_of (decimal n) ≡ Ok n
-number_is n h = ap in_form (number_written 0 18446744073709551615 n (omega arith) h (omega arith))
-
-client_is : (client : ClientId) → IsClient client → client_of (client_word client) ≡ Ok client
-client_is client h = ap in_form (client_written client h)
 
 ino_is : (least : ℕ) (ino : Ino) → least ≤ ino.0 → ino.0 ≤ 511 → ino_of least (decimal ino.0) ≡ Ok ino
 ino_is least ino low high = chain (in_form (number_in least 511 (decimal ino.0))) ino.0 (λ number. Ok (record { 0 = number })) (Ok ino) (ap in_form (number_written least 511 ino.0 low high (omega arith))) refl
@@ -54,26 +41,6 @@ new_is None h = refl
 new_is (Some ino) h =
     ap (λ (b : Bool). cond b (Ok None) (then_read (ino_of 1 (decimal ino.0)) (λ ino. Ok (Some ino)))) (no_dash ino.0 h.1 (bytes_eq (decimal ino.0) (codes "-")) refl)
     ∙ chain (ino_of 1 (decimal ino.0)) ino (λ ino. Ok (Some ino)) (Ok (Some ino)) (ino_is 1 ino h.0 h.1) refl
-
-no_fill : (call : Call) → not (is_fill (call_words call)) ≡ true
-no_fill (Create path) = refl
-no_fill (Mkdir path) = refl
-no_fill (Unlink path) = refl
-no_fill (Rmdir path) = refl
-no_fill (Rename from to) = refl
-no_fill (Open path mode) = refl
-no_fill (Close fd) = refl
-no_fill (Read fd offset count) = refl
-no_fill (Write fd offset bytes) = refl
-no_fill (Truncate fd size) = refl
-no_fill (Stat path) = refl
-no_fill (Readdir path) = refl
-no_fill (Fsync fd) = refl
-
-call_is : (call : Call) → IsCall call → call_of (call_words call) ≡ Ok call
-call_is call h =
-    ap (λ (b : Bool). cond b (in_form (call_said (call_words call))) outside) (and_both (are_whole (call_words call)) (not (is_fill (call_words call))) (call_whole call h) (no_fill call))
-    ∙ ap in_form (call_written call h)
 
 reply_is : (reply : List ℕ) → IsReply reply → reply_of (words reply) ≡ Ok reply
 reply_is reply h = ap (λ (b : Bool). cond b (Ok (join_with_byte 32 (words reply))) outside) h ∙ ap (λ (text : List ℕ). Ok text) (text_again reply)

@@ -1,44 +1,23 @@
 -- What is told is within the limits of its places.
-use Rattle.std.proofs.Common.{◌≡◌, ◌≤◌, ◌&&◌, ℕ, Bool, true, false, List, [], ◌∷◌, cond, refl, sym, ap, ◌∙◌, subst, arith, Result, Ok, Err, Option, Some, None, codes, bytes_eq, not}
+use Rattle.std.proofs.Common.{◌≡◌, ◌≤◌, ℕ, Bool, true, false, List, [], ◌∷◌, cond, refl, ap, ◌∙◌, subst, arith, Result, Ok, Option, Some, None, codes, bytes_eq}
 use Rattle.std.specs.List.{join_with_byte}
-use Rattle.cal_base.specs.declared.identity.ClientId.{ClientId}
 use Rattle.cal_base.specs.declared.identity.Ino.{Ino}
-use Rattle.tree_law.specs.declared.call.Call.{Call}
-use Rattle.script.specs.CallLine.{call_said}
 use Rattle.script.specs.Numbers.{number_in}
-use Rattle.script.specs.Places.{client_in}
-use Rattle.script.specs.Spelling.{IsClient, IsWide, IsCall}
-use Rattle.script.specs.declared.bad_line.BadWhy.{BadWhy}
-use Rattle.script.proofs.ReadLines.{call_good}
-use Rattle.script.proofs.ReadPlaces.{number_range, client_range}
+use Rattle.script.specs.Spelling.{IsClient, IsWide}
+use Rattle.script.proofs.ReadPlaces.{number_range}
 use Rattle.history_check.specs.declared.told.Told.{Told}
 use Rattle.history_check.specs.declared.told.Told.TheVariants.{Starts, Enters, Flushes, Purges, Answers as Answered}
-use Rattle.text_lines.specs.Outcome.{outside, then_read, in_form}
-use Rattle.text_lines.specs.Places.{client_of, number_of, ino_of, any_ino, new_ino, are_whole, is_fill, call_of}
+use Rattle.line_words.specs.Outcome.{outside, then_read, in_form}
+use Rattle.line_words.specs.Places.{client_of, number_of, call_of}
+use Rattle.text_lines.specs.Places.{ino_of, any_ino, new_ino}
 use Rattle.text_lines.specs.Replies.{is_reply, reply_of}
 use Rattle.text_lines.specs.Spelling.{IsNew, IsReply, IsTold}
 use Rattle.text_lines.specs.Telling.{is_start, start_told, call_entry_told, flush_told, purge_told, entry_told, answer_told, tells, step_told, is_passed_over, words_told, told_in}
-use Rattle.text_lines.specs.Words.{words, first_as, behind_word, last_as}
-use Rattle.text_lines.specs.declared.read_error.OutOfForm.{OutOfForm}
+use Rattle.line_words.specs.Words.{words, first_as, behind_word, last_as}
+use Rattle.line_words.specs.declared.read_error.OutOfForm.{OutOfForm}
 use Rattle.std.proofs.lemmas.Bool.{and_parts}
-use Rattle.text_lines.proofs.Joined.{is_free, are_free, words_joined, words_free}
-
-value_or : {T E : Type 0} → T → Result T E → T
-value_or other (Ok value) = value
-value_or other (Err error) = other
-
-is_read : {T E : Type 0} → Result T E → Bool
-is_read (Ok value) = true
-is_read (Err error) = false
-
--- what was read twice is the same
-same_read : {T E : Type 0} (one other : T) (r : Result T E) → r ≡ Ok one → r ≡ Ok other → one ≡ other
-unfolding value_or
-same_read one other r e f = ap (value_or one) (sym e ∙ f)
-
-no_value : {T E : Type 0} (error : E) (value : T) (r : Result T E) → r ≡ Err error → r ≡ Ok value → ⊥
-unfolding is_read
-no_value error value r e f = let same : false ≡ true = ap is_read (sym e ∙ f) in grind arith
+use Rattle.line_words.proofs.Joined.{is_free, are_free, words_joined, words_free}
+use Rattle.line_words.proofs.Ranges.{same_read, no_value, is_value, first_read, in_script, passed, client_within, number_within, call_within, first_within, last_within, choice}
 
 told_or : Told → Option Told → Told
 told_or other None = other
@@ -56,42 +35,6 @@ none_some : (told : Told) → None ≡ Some told → ⊥
 unfolding is_told
 none_some told e = let same : false ≡ true = ap is_told e in grind arith
 
--- what is so of a value is so of the one that was read
-is_value : {T E : Type 0} (P : T → Type 0) (one value : T) (r : Result T E) → r ≡ Ok one → P one → r ≡ Ok value → P value
-is_value P one value r e h f = subst P (same_read one value r e f) h
-
-record First {T U : Type 0} (r : Result T OutOfForm) (next : T → Result U OutOfForm) (value : U) : Type 0 where
-  first : T
-  is : r ≡ Ok first
-  rest : next first ≡ Ok value
-
--- what was read first, and what was read then
-first_read : {T U : Type 0} (r : Result T OutOfForm) (next : T → Result U OutOfForm) (value : U) → then_read r next ≡ Ok value → First r next value
-first_read (Ok first) next value e = record { first = first; is = refl; rest = e }
-first_read (Err form) next value e = absurd (no_value form value (Err form) refl e)
-
--- a value in its form is the script's
-in_script : {T : Type 0} (r : Result T BadWhy) (value : T) → in_form r ≡ Ok value → r ≡ Ok value
-in_script (Ok one) value e = ap (λ v. Ok v) (same_read one value (Ok one) refl e)
-in_script (Err why) value e = absurd (no_value (record {}) value outside refl e)
-
--- a value that a test lets through
-passed : {T : Type 0} (b : Bool) (one value : T) → cond b (Ok one) outside ≡ Ok value → (b ≡ true) × (one ≡ value)
-passed true one value e = (refl, same_read one value (Ok one) refl e)
-passed false one value e = absurd (no_value (record {}) value outside refl e)
-
-let_through : {T : Type 0} (b : Bool) (r : Result T OutOfForm) (value : T) → cond b r outside ≡ Ok value → r ≡ Ok value
-let_through true r value e = e
-let_through false r value e = absurd (no_value (record {}) value outside refl e)
-
--- places
-
-client_within : (word : List ℕ) (client : ClientId) → client_of word ≡ Ok client → IsClient client
-client_within word client e = client_range word client (in_script (client_in word) client e)
-
-number_within : (word : List ℕ) (number : ℕ) → number_of word ≡ Ok number → IsWide number
-number_within word number e = (number_range 0 18446744073709551615 number word (in_script _ number e)).1
-
 ino_within : (least : ℕ) (word : List ℕ) (ino : Ino) → ino_of least word ≡ Ok ino → (least ≤ ino.0) × (ino.0 ≤ 511)
 ino_within least word ino e =
     let one = first_read (in_form (number_in least 511 word)) _ ino e in
@@ -103,9 +46,6 @@ new_within word new e = elim (bytes_eq word (codes "-")) as (λ b. cond b (Ok No
   | false ↦ λ f. let one = first_read (ino_of 1 word) _ new f in is_value IsNew (Some one.first) new _ refl (ino_within 1 word one.first one.is) one.rest
 ] e
 
-call_within : (words : List (List ℕ)) (call : Call) → call_of words ≡ Ok call → IsCall call
-call_within words call e = call_good words call (in_script (call_said words) call (let_through (are_whole words && not (is_fill words)) (in_form (call_said words)) call e))
-
 is_again : (parts : List (List ℕ)) → are_free parts ≡ true → is_reply parts ≡ true → is_reply (words (join_with_byte 32 parts)) ≡ true
 is_again [] h e = absurd (let same : false ≡ true = e in grind arith)
 is_again (word ∷ behind) h e = ap is_reply (words_joined word behind h) ∙ e
@@ -114,18 +54,6 @@ reply_within : (parts : List (List ℕ)) (reply : List ℕ) → are_free parts �
 reply_within parts reply h e =
     let through = passed (is_reply parts) (join_with_byte 32 parts) reply e in
     subst IsReply through.1 (is_again parts h through.0)
-
--- the first word of some
-first_within : {T : Type 0} (P : T → Type 0) (read : List ℕ → Result T OutOfForm) → ((word : List ℕ) (value : T) → read word ≡ Ok value → P value) → (words : List (List ℕ)) (found : T × List (List ℕ)) → first_as read words ≡ Ok found → P found.0
-first_within P read good [] found e = absurd (no_value (record {}) found outside refl e)
-first_within P read good (word ∷ behind) found e =
-    let one = first_read (read word) _ found e in
-    is_value (λ (f : _ × List (List ℕ)). P f.0) (one.first, behind) found _ refl (good word one.first one.is) one.rest
-
-last_within : {T : Type 0} (P : T → Type 0) (read : List ℕ → Result T OutOfForm) → ((word : List ℕ) (value : T) → read word ≡ Ok value → P value) → (words : List (List ℕ)) (value : T) → last_as read words ≡ Ok value → P value
-last_within P read good [] value e = absurd (no_value (record {}) value outside refl e)
-last_within P read good (word ∷ []) value e = good word value e
-last_within P read good (word ∷ next ∷ more) value e = absurd (no_value (record {}) value outside refl e)
 
 -- the words behind
 
@@ -192,11 +120,6 @@ answer_within words told h e =
     is_value IsTold (Answered client.first.0 number.first.0 reply.first) told _ refl
     (first_within IsClient client_of client_within words client.first client.is, first_within IsWide number_of number_within client.first.1 number.first number.is, reply_within number.first.1 reply.first free-2 reply.is)
     reply.rest
-
--- what a choice gives is what one of the two gives
-choice : {T E : Type 0} (P : Result T E → Type 0) (b : Bool) (one other : Result T E) → P one → P other → P (cond b one other)
-choice P true one other h k = h
-choice P false one other h k = k
 
 entry_within : (words : List (List ℕ)) → are_free words ≡ true → (told : Told) → entry_told words ≡ Ok told → IsTold told
 entry_within [] h = λ told e. absurd (no_value (record {}) told outside refl e)

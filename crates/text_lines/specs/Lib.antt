@@ -1,5 +1,3 @@
-pub mod Outcome
-pub mod Words
 pub mod Places
 pub mod Replies
 pub mod Telling

@@ -4,9 +4,9 @@ use Rattle.std.specs.List.{list_all, join_with_byte}
 use Rattle.std.specs.Result.{is_ok}
 use Rattle.tree_law.specs.NameTest.{is_name}
 use Rattle.script.specs.Numbers.{number_in, is_hex_digit}
-use Rattle.text_lines.specs.Outcome.{outside}
-use Rattle.text_lines.specs.Places.{number_of}
-use Rattle.text_lines.specs.declared.read_error.OutOfForm.{OutOfForm}
+use Rattle.line_words.specs.Outcome.{outside}
+use Rattle.line_words.specs.Places.{number_of}
+use Rattle.line_words.specs.declared.read_error.OutOfForm.{OutOfForm}
 
 -- no more words
 abbrev pub are_none : List (List ℕ) → Bool

@@ -6,7 +6,7 @@ use Rattle.script.specs.Spelling.{client_word, call_words, IsWide, IsClient, IsC
 use Rattle.history_check.specs.declared.told.Told.{Told}
 use Rattle.history_check.specs.declared.told.Told.TheVariants.{Starts, Enters, Flushes, Purges, Answers as Answered}
 use Rattle.text_lines.specs.Replies.{is_reply}
-use Rattle.text_lines.specs.Words.{words}
+use Rattle.line_words.specs.Words.{words}
 
 -- the inode that a call made, or a dash
 abbrev pub new_word : Option Ino → List ℕ

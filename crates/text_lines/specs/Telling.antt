@@ -2,11 +2,12 @@
 use Rattle.std.specs.Prelude.{ℕ, ◌||◌, Bool, false, List, [], ◌∷◌, if◌then◌else◌, Option, Some, None, Result, Ok, codes, bytes_eq}
 use Rattle.history_check.specs.declared.told.Told.{Told}
 use Rattle.history_check.specs.declared.told.Told.TheVariants.{Starts, Enters, Flushes, Purges, Answers as Answered}
-use Rattle.text_lines.specs.Outcome.{outside, then_read}
-use Rattle.text_lines.specs.Places.{client_of, number_of, any_ino, new_ino, call_of}
+use Rattle.line_words.specs.Outcome.{outside, then_read}
+use Rattle.line_words.specs.Places.{client_of, number_of, call_of}
+use Rattle.text_lines.specs.Places.{any_ino, new_ino}
 use Rattle.text_lines.specs.Replies.{reply_of}
-use Rattle.text_lines.specs.Words.{words, first_as, behind_word, last_as}
-use Rattle.text_lines.specs.declared.read_error.OutOfForm.{OutOfForm}
+use Rattle.line_words.specs.Words.{words, first_as, behind_word, last_as}
+use Rattle.line_words.specs.declared.read_error.OutOfForm.{OutOfForm}
 
 -- the third of these words, behind a number and a node, is `start`
 abbrev pub is_start : List (List ℕ) → Bool

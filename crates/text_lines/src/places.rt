@@ -1,35 +1,10 @@
-ghost use Rattle.std.specs.Prelude.{◌≡◌, true};
-ghost use Rattle.script.specs.CallLine.{call_said};
-ghost use Rattle.text_lines.specs.Outcome.{Answers, in_form};
-ghost use Rattle.text_lines.specs.Places.{client_of, number_of, ino_of, any_ino, new_ino, are_whole, is_fill, call_of};
-ghost use Rattle.text_lines.specs.Words.{words, words_left};
+ghost use Rattle.std.specs.Prelude.{◌≡◌, Ok, Err, MatchResult};
+ghost use Rattle.line_words.specs.Words.{words_left, first_as, last_as};
+ghost use Rattle.text_lines.specs.Places.{ino_of, any_ino, new_ino};
 
-use crate::read_error::{OutOfForm, ReadToldError};
-use crate::words::next_word;
-use cal_base::{ClientId, Ino, LAST_INODE};
-use script::{ReadLineError, client_in, number_in, read_call};
-use std::alloc::Global;
-use tree_law::Call;
-
-/// A client: `c0` to `c15`.
-pub(crate) fn client_of(word: &[u8]) -> Result<ClientId, OutOfForm>
-    ensures { result ≡ client_of word.now }
-{
-    match client_in(word) {
-        Ok(client) => Ok(client),
-        Err(_) => Err(OutOfForm),
-    }
-}
-
-/// A number of 64 bits: `0`, or digits without a leading 0.
-pub(crate) fn number_of(word: &[u8]) -> Result<u64, OutOfForm>
-    ensures { result ≡ number_of word.now }
-{
-    match number_in(0, u64::MAX, word) {
-        Ok(number) => Ok(number),
-        Err(_) => Err(OutOfForm),
-    }
-}
+use cal_base::{Ino, LAST_INODE};
+use line_words::{OutOfForm, next_word};
+use script::number_in;
 
 /// An inode, from the least to the last.
 fn ino_of(least: u32, word: &[u8]) -> Result<Ino, OutOfForm>
@@ -42,14 +17,14 @@ fn ino_of(least: u32, word: &[u8]) -> Result<Ino, OutOfForm>
 }
 
 /// An inode: 0 to 511.
-pub(crate) fn any_ino(word: &[u8]) -> Result<Ino, OutOfForm>
+fn any_ino(word: &[u8]) -> Result<Ino, OutOfForm>
     ensures { result ≡ any_ino word.now }
 {
     ino_of(0, word)
 }
 
 /// The inode that a call made: 1 to 511, or `-` for none.
-pub(crate) fn new_ino(word: &[u8]) -> Result<Option<Ino>, OutOfForm>
+fn new_ino(word: &[u8]) -> Result<Option<Ino>, OutOfForm>
     ensures { result ≡ new_ino word.now }
 {
     if word == b"-".as_slice() {
@@ -59,54 +34,26 @@ pub(crate) fn new_ino(word: &[u8]) -> Result<Option<Ino>, OutOfForm>
     Ok(Some(ino))
 }
 
-/// Whether no word is empty.
-fn are_whole(left: Option<&[u8]>) -> bool
-    ensures { result ≡ are_whole (words_left left.entry) }
+/// The inode that a call made, or none, and the words behind it.
+pub(crate) fn first_new_ino(left: Option<&[u8]>) -> Result<(Option<Ino>, Option<&[u8]>), OutOfForm>
+    ensures { MatchResult result (λ found. first_as new_ino (words_left left.entry) ≡ Ok (found.0, words_left found.1)) (λ form. first_as new_ino (words_left left.entry) ≡ Err form) }
 {
-    let mut rest = left;
-    loop {
-        let Some((word, behind)) = next_word(rest) else {
-            return true;
-        };
-        if word.is_empty() {
-            return false;
-        }
-        rest = behind;
-    }
-}
-
-/// Whether the first word is `fill`.
-fn is_fill(left: Option<&[u8]>) -> bool
-    ensures { result ≡ is_fill (words_left left.entry) }
-{
-    match next_word(left) {
-        Some((word, _)) => word == b"fill".as_slice(),
-        None => false,
-    }
-}
-
-/// Reads a call as a script has it behind its client, from words of which none is empty.
-fn read_script_call(alloc: Global, text: &[u8]) -> Result<Call, ReadToldError>
-    requires { are_whole (words text.now) ≡ true }
-    ensures { Answers (in_form (call_said (words text.now))) result }
-{
-    match read_call(alloc, text) {
-        Ok(call) => Ok(call),
-        Err(ReadLineError::Bad(_)) => Err(ReadToldError::Form),
-        Err(ReadLineError::OutOfMemory) => Err(ReadToldError::OutOfMemory),
-    }
-}
-
-/// Reads a call as a script has it behind its client, but for `fill`, with one space between each two
-/// words.
-pub(crate) fn read_call_of(alloc: Global, left: Option<&[u8]>) -> Result<Call, ReadToldError>
-    ensures { Answers (call_of (words_left left.entry)) result }
-{
-    let Some(text) = left else {
-        return Err(ReadToldError::Form);
+    let Some((word, behind)) = next_word(left) else {
+        return Err(OutOfForm);
     };
-    if !are_whole(Some(text)) || is_fill(Some(text)) {
-        return Err(ReadToldError::Form);
+    let ino = new_ino(word)?;
+    Ok((ino, behind))
+}
+
+/// The one inode that is left.
+pub(crate) fn last_ino(left: Option<&[u8]>) -> Result<Ino, OutOfForm>
+    ensures { result ≡ last_as any_ino (words_left left.entry) }
+{
+    let Some((word, behind)) = next_word(left) else {
+        return Err(OutOfForm);
+    };
+    match next_word(behind) {
+        None => any_ino(word),
+        Some(_) => Err(OutOfForm),
     }
-    read_script_call(alloc, text)
 }

@@ -1,15 +1,14 @@
 ghost use Rattle.std.specs.Prelude.{◌≡◌, Option, Some};
-ghost use Rattle.text_lines.specs.Outcome.{Answers};
+ghost use Rattle.line_words.specs.Outcome.{Answers};
 ghost use Rattle.text_lines.specs.Telling.{is_start, start_told, call_entry_told, flush_told, purge_told, entry_told, answer_told, tells, step_told, is_passed_over, words_told, told_in};
-ghost use Rattle.text_lines.specs.Words.{words, words_left};
+ghost use Rattle.line_words.specs.Words.{words, words_left};
 
-use crate::places::read_call_of;
-use crate::read_error::ReadToldError;
+use crate::places::{first_new_ino, last_ino};
 use crate::replies::read_reply;
-use crate::words::{
-    behind_word, first_client, first_new_ino, first_number, last_client, last_ino, next_word,
-};
 use history_check::Told;
+use line_words::{
+    ReadWordsError, behind_word, first_client, first_number, last_client, next_word, read_call_of,
+};
 use std::alloc::Global;
 
 /// Whether the third word is `start`.
@@ -29,7 +28,7 @@ fn is_start(left: Option<&[u8]>) -> bool
 }
 
 /// Reads `I cX start N CALL`.
-fn read_start(alloc: Global, left: Option<&[u8]>) -> Result<Told, ReadToldError>
+fn read_start(alloc: Global, left: Option<&[u8]>) -> Result<Told, ReadWordsError>
     ensures { Answers (start_told (words_left left.entry)) result }
 {
     let (_, behind) = first_number(left)?;
@@ -45,7 +44,7 @@ fn read_start(alloc: Global, left: Option<&[u8]>) -> Result<Told, ReadToldError>
 }
 
 /// Reads `cX N new I reply R`.
-fn read_call_entry(alloc: Global, left: Option<&[u8]>) -> Result<Told, ReadToldError>
+fn read_call_entry(alloc: Global, left: Option<&[u8]>) -> Result<Told, ReadWordsError>
     ensures { Answers (call_entry_told (words_left left.entry)) result }
 {
     let (client, behind) = first_client(left)?;
@@ -63,7 +62,7 @@ fn read_call_entry(alloc: Global, left: Option<&[u8]>) -> Result<Told, ReadToldE
 }
 
 /// Reads `cX I`.
-fn read_flush(left: Option<&[u8]>) -> Result<Told, ReadToldError>
+fn read_flush(left: Option<&[u8]>) -> Result<Told, ReadWordsError>
     ensures { Answers (flush_told (words_left left.entry)) result }
 {
     let (client, behind) = first_client(left)?;
@@ -72,7 +71,7 @@ fn read_flush(left: Option<&[u8]>) -> Result<Told, ReadToldError>
 }
 
 /// Reads `cX`.
-fn read_purge(left: Option<&[u8]>) -> Result<Told, ReadToldError>
+fn read_purge(left: Option<&[u8]>) -> Result<Told, ReadWordsError>
     ensures { Answers (purge_told (words_left left.entry)) result }
 {
     let client = last_client(left)?;
@@ -80,11 +79,11 @@ fn read_purge(left: Option<&[u8]>) -> Result<Told, ReadToldError>
 }
 
 /// Reads an entry of a call, a flush or a purge.
-fn read_entry(alloc: Global, left: Option<&[u8]>) -> Result<Told, ReadToldError>
+fn read_entry(alloc: Global, left: Option<&[u8]>) -> Result<Told, ReadWordsError>
     ensures { Answers (entry_told (words_left left.entry)) result }
 {
     let Some((kind, behind)) = next_word(left) else {
-        return Err(ReadToldError::Form);
+        return Err(ReadWordsError::Form);
     };
     if kind == b"call".as_slice() {
         read_call_entry(alloc, behind)
@@ -93,12 +92,12 @@ fn read_entry(alloc: Global, left: Option<&[u8]>) -> Result<Told, ReadToldError>
     } else if kind == b"purge".as_slice() {
         read_purge(behind)
     } else {
-        Err(ReadToldError::Form)
+        Err(ReadWordsError::Form)
     }
 }
 
 /// Reads `cX N R`.
-fn read_answer(alloc: Global, left: Option<&[u8]>) -> Result<Told, ReadToldError>
+fn read_answer(alloc: Global, left: Option<&[u8]>) -> Result<Told, ReadWordsError>
     ensures { Answers (answer_told (words_left left.entry)) result }
 {
     let (client, behind) = first_client(left)?;
@@ -111,7 +110,7 @@ fn read_answer(alloc: Global, left: Option<&[u8]>) -> Result<Told, ReadToldError
     })
 }
 
-fn read_step(alloc: Global, left: Option<&[u8]>) -> Result<Option<Told>, ReadToldError>
+fn read_step(alloc: Global, left: Option<&[u8]>) -> Result<Option<Told>, ReadWordsError>
     ensures { Answers (step_told (words_left left.entry)) result }
 {
     if !is_start(left) {
@@ -121,14 +120,14 @@ fn read_step(alloc: Global, left: Option<&[u8]>) -> Result<Option<Told>, ReadTol
     Ok(Some(told))
 }
 
-fn tells_entry(alloc: Global, left: Option<&[u8]>) -> Result<Option<Told>, ReadToldError>
+fn tells_entry(alloc: Global, left: Option<&[u8]>) -> Result<Option<Told>, ReadWordsError>
     ensures { Answers (tells (entry_told (words_left left.entry))) result }
 {
     let told = read_entry(alloc, left)?;
     Ok(Some(told))
 }
 
-fn tells_answer(alloc: Global, left: Option<&[u8]>) -> Result<Option<Told>, ReadToldError>
+fn tells_answer(alloc: Global, left: Option<&[u8]>) -> Result<Option<Told>, ReadWordsError>
     ensures { Answers (tells (answer_told (words_left left.entry))) result }
 {
     let told = read_answer(alloc, left)?;
@@ -159,11 +158,11 @@ fn is_passed_over(word: &[u8]) -> bool
 /// A reply is handed on as it is written. It is in its form where some call can be answered so, with any
 /// numbers: whether it fits its call isn't looked at.
 #[tactic(auto, unfolding(crate::specs::Telling::told_in))]
-pub fn read_told(alloc: Global, line: &[u8]) -> Result<Option<Told>, ReadToldError>
+pub fn read_told(alloc: Global, line: &[u8]) -> Result<Option<Told>, ReadWordsError>
     ensures { Answers (told_in line.now) result }
 {
     let Some((word, behind)) = next_word(Some(line)) else {
-        return Err(ReadToldError::Form);
+        return Err(ReadWordsError::Form);
     };
     if word == b"step".as_slice() {
         read_step(alloc, behind)
@@ -174,6 +173,6 @@ pub fn read_told(alloc: Global, line: &[u8]) -> Result<Option<Told>, ReadToldErr
     } else if is_passed_over(word) {
         Ok(None)
     } else {
-        Err(ReadToldError::Form)
+        Err(ReadWordsError::Form)
     }
 }

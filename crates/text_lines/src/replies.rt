@@ -1,14 +1,12 @@
 ghost use Rattle.std.specs.Prelude.{◌≡◌, ◌==◌, ◌&&◌, ◌*◌, nat_lt, length, IfOk};
 ghost use Rattle.std.specs.List.{join_with_byte, list_all};
 ghost use Rattle.script.specs.Numbers.{is_hex_digit};
-ghost use Rattle.text_lines.specs.Outcome.{Answers};
+ghost use Rattle.line_words.specs.Outcome.{Answers};
 ghost use Rattle.text_lines.specs.Replies.{are_none, are_bytes, are_names, is_counted, is_size, is_outcome, is_blocks, are_blocks, is_path_refusal, is_other_refusal, is_refusal, is_reply, reply_of};
-ghost use Rattle.text_lines.specs.Words.{words, words_left};
+ghost use Rattle.line_words.specs.Words.{words, words_left};
 
-use crate::places::number_of;
-use crate::read_error::{OutOfForm, ReadToldError};
-use crate::words::next_word;
 use cal_base::{Blob, Oom};
+use line_words::{OutOfForm, ReadWordsError, next_word, number_of};
 use script::{are_hex_digits, number_in};
 use std::alloc::Global;
 use tree_law::is_name;
@@ -187,14 +185,14 @@ fn copy_of(alloc: Global, text: &[u8]) -> Result<Blob, Oom>
 }
 
 /// Reads a reply to some call: the words that are left, as they are written.
-pub(crate) fn read_reply(alloc: Global, left: Option<&[u8]>) -> Result<Blob, ReadToldError>
+pub(crate) fn read_reply(alloc: Global, left: Option<&[u8]>) -> Result<Blob, ReadWordsError>
     ensures { Answers (reply_of (words_left left.entry)) result }
 {
     let Some(text) = left else {
-        return Err(ReadToldError::Form);
+        return Err(ReadWordsError::Form);
     };
     if !is_reply(left) {
-        return Err(ReadToldError::Form);
+        return Err(ReadWordsError::Form);
     }
     Ok(copy_of(alloc, text)?)
 }

@@ -1,6 +1,6 @@
 use Rattle.std.proofs.Common.{sym, ap, ◌∙◌}
 use Rattle.text_lines.specs.Replies.{are_bytes}
-use Rattle.text_lines.specs.Words.{words_left}
+use Rattle.line_words.specs.Words.{words_left}
 use Rattle.text_lines.proofs.OneWord.{bytes_in}
 use Rattle.text_lines.proofs.replies.are_bytes.Goals as goal
 

@@ -1,6 +1,6 @@
 use Rattle.std.proofs.Common.{◌≡◌, length}
 use Rattle.text_lines.specs.Replies.{are_names}
-use Rattle.text_lines.specs.Words.{words_left}
+use Rattle.line_words.specs.Words.{words_left}
 use Rattle.text_lines.proofs.replies.are_names.Given as goal
 
 abbrev pub invariant-loop-word : goal.invariant-loop-word

@@ -1,6 +1,6 @@
 use Rattle.std.proofs.Common.{sym, ap, ◌∙◌}
 use Rattle.text_lines.specs.Replies.{are_none}
-use Rattle.text_lines.specs.Words.{words_left}
+use Rattle.line_words.specs.Words.{words_left}
 use Rattle.text_lines.proofs.OneWord.{has_words}
 use Rattle.text_lines.proofs.replies.are_none.Goals as goal
 

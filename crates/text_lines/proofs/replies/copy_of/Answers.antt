@@ -1,5 +1,5 @@
 use Rattle.std.proofs.Common.{rules}
-use Rattle.text_lines.proofs.Kept.{text_again}
+use Rattle.line_words.proofs.Kept.{text_again}
 use Rattle.text_lines.proofs.replies.copy_of.Goals as goal
 
 pub returns : goal.returns

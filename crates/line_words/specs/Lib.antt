@@ -1,0 +1,4 @@
+pub mod Outcome
+pub mod Words
+pub mod Places
+pub mod Values
